@@ -1,0 +1,4 @@
+pub mod Shifts
+pub mod Turn
+pub mod Part
+pub mod Held

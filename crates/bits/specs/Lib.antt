@@ -1,0 +1,9 @@
+pub mod PduParseError
+pub mod Bits
+pub mod BitsLaws
+pub mod Reader
+pub mod ReaderLaws
+pub mod Placed
+pub mod PlacedLaws
+pub mod Written
+pub mod WrittenLaws

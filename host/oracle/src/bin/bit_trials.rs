@@ -1,0 +1,5 @@
+//! Prints the expected output of the program bit_trials.
+
+fn main() {
+    print!("{}", oracle::bit_trials::lines());
+}
