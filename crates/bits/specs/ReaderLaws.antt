@@ -1,9 +1,10 @@
--- Each reader is local, and so is what the combinators make of local readers.
+-- Each reader is local, and so is what the combinators make of local readers; two readings of one beginning; and readers that follow one
+-- another, bit by bit.
 use Prim.Native.Nat.{ℕ, zero, suc, _+_, _^_, _≤_, _<_}
 use native.Mathlib.Omega.{arith}
 use mathlib.Core.Path.{_≡_, refl, sym, ap, _∙_}
 use mathlib.Core.Bool.{Bool, true, false, cond}
-use mathlib.Core.List.{[], _∷_, _++_, append-assoc}
+use mathlib.Core.List.{[], _∷_, _++_, append-assoc, append-cancel-right}
 use lib.ListN.{length, take, drop, length-append, take-append-drop}
 use lib.Dec.{leb, eqb}
 use lib.Seq.{take-at, drop-at, length-take-le}
@@ -25,11 +26,20 @@ split-then (refused n) f e k = refused-got e
 pub local-tail : {A : Type 0} {r : Reader A} → Local r → Tail r
 local-tail l = record { at = λ bs a rest e. let u = l .at bs a rest e in (u .used, u .split) }
 
+-- what a local reader gives it gives whatever more there is
+pub local-more : {A : Type 0} {r : Reader A} → Local r → (bs zs : Bits) {a : A} {rest : Bits} → r bs ≡ got a rest → r (bs ++ zs) ≡ got a (rest ++ zs)
+local-more l bs zs {a} {rest} e =
+    let u = l .at bs a rest e in
+    rw (u .split, append-assoc (u .used) rest zs) (u .any (rest ++ zs))
+
 pub got-local : {A : Type 0} (x : A) → Local (λ bs. got x bs)
 got-local x = record { at = λ bs a rest e. record { used = []; split = cc; any = λ zs. let h : x ≡ a = cc in rw h } }
 
 pub refused-local : {A : Type 0} (n : ℕ) → Local {A = A} (λ bs. refused n)
 refused-local n = record { at = λ bs a rest e. refused-got e }
+
+joined : (u v rest : Bits) {bs mid : Bits} → bs ≡ u ++ mid → mid ≡ v ++ rest → bs ≡ (u ++ v) ++ rest
+joined u v rest p q = p ∙ ap (λ (l : Bits). u ++ l) q ∙ sym (append-assoc u v rest)
 
 pub bind-local : {A B : Type 0} (r : Reader A) (f : A → Reader B) → Local r → ((a : A) → Local (f a)) → Local (r >>= f)
 bind-local r f lr lf = record {
@@ -39,7 +49,7 @@ bind-local r f lr lf = record {
       let v = (lf a) .at mid b rest q in
       record {
         used = u .used ++ v .used;
-        split = u .split ∙ ap (λ (l : Bits). u .used ++ l) (v .split) ∙ sym (append-assoc (u .used) (v .used) rest);
+        split = joined (u .used) (v .used) rest (u .split) (v .split);
         any = λ zs. rw (append-assoc (u .used) (v .used) zs, u .any) (v .any zs);
       });
 }
@@ -50,7 +60,7 @@ bind-tail r f lr lf = record {
       split-then (r bs) f e (λ a mid p q.
       let u = lr .at bs a mid p in
       let v = (lf a) .at mid b rest q in
-      (u .0 ++ v .0, u .1 ∙ ap (λ (l : Bits). u .0 ++ l) (v .1) ∙ sym (append-assoc (u .0) (v .0) rest)));
+      (u .0 ++ v .0, joined (u .0) (v .0) rest (u .1) (v .1)));
 }
 
 -- ## fields
@@ -157,6 +167,128 @@ exactly-local n r l = record {
       };
 }
 
+-- ## two readings of one beginning
+
+pub data Agree {A : Type 0} (x y : Answer A) (zs zs′ : Bits) : Type 0 where
+  both : (a : A) → x ≡ got a zs → y ≡ got a zs′ → Agree x y zs zs′
+  neither : (m n : ℕ) → x ≡ refused m → y ≡ refused n → Agree x y zs zs′
+
+-- r, which uses u wherever it gives a value, reads u alike before any two endings
+module _ {A : Type 0} {r : Reader A} (l : Local r) (u : Bits) (uses : (zs : Bits) (a : A) (rest : Bits) → r (u ++ zs) ≡ got a rest → rest ≡ zs) where
+  moved : (zs zs′ : Bits) {a : A} → r (u ++ zs) ≡ got a zs → r (u ++ zs′) ≡ got a zs′
+  moved zs zs′ {a} e =
+      let v = l .at (u ++ zs) a zs e in
+      let same : v .used ≡ u = append-cancel-right (v .used) u zs (sym (v .split)) in
+      rw same at (v .any zs′)
+
+  pub agree : (zs zs′ : Bits) → Agree (r (u ++ zs)) (r (u ++ zs′)) zs zs′
+  agree zs zs′ = go (r (u ++ zs)) refl (r (u ++ zs′)) refl
+    where
+      go : (x : Answer A) → r (u ++ zs) ≡ x → (y : Answer A) → r (u ++ zs′) ≡ y → Agree (r (u ++ zs)) (r (u ++ zs′)) zs zs′
+      go (got a rest) p y q = let p′ = rw (uses zs a rest p) at p in both a p′ (moved zs zs′ p′)
+      go (refused m) p (got a rest) q = refused-got (sym p ∙ moved zs′ zs (rw (uses zs′ a rest q) at q))
+      go (refused m) p (refused n) q = neither m n p q
+
+-- ## a reader that follows another
+
+-- FOLLOWS: where r gives a value, w gives g of it and leaves the same rest
+pub record Follows {A B : Type 0} (r : Reader A) (w : Reader B) (g : A → B) : Type 0 where
+  pub at : (bs : Bits) (a : A) (rest : Bits) → r bs ≡ got a rest → w bs ≡ got (g a) rest
+
+-- PASSES: where r gives a value, it has used n bits
+abbrev pub Passes : {A : Type 0} → ℕ → Reader A → Type 0
+Passes n r = Follows r (pass n) (λ a. tt)
+
+-- n bits stand before rest
+record Before (n : ℕ) (bs rest : Bits) : Type 0 where
+  used : Bits
+  split : bs ≡ used ++ rest
+  long : length used ≡ n
+
+pass-before : {n : ℕ} {bs rest : Bits} → Before n bs rest → pass n bs ≡ got tt rest
+unfolding pass
+pass-before {n} {bs} {rest} b =
+    let u : Bits = b .used in
+    rw (b .split) (rw (field-enough n (u ++ rest) (omega (arith, b .long, length-append u rest))) (rw (drop-at u rest n (b .long))))
+
+pass-got : (n : ℕ) (bs : Bits) {z : Unit} {rest : Bits} → pass n bs ≡ got z rest → Before n bs rest
+unfolding pass
+pass-got n bs {z} {rest} e = split-then (field n bs) _ e (λ v mid p q.
+    let g = field-got n bs p in
+    let h : rest ≡ drop n bs = cc (g .left) in
+    record { used = take n bs; split = rw h (sym (take-append-drop n bs)); long = length-take-le n bs (g .enough) })
+
+pub same-follows : {A : Type 0} (r : Reader A) → Follows r r (λ a. a)
+same-follows r = record { at = λ bs a rest e. e }
+
+pub pass-passes : (n : ℕ) → Passes n (pass n)
+pass-passes n = same-follows (pass n)
+
+pub field-passes : (w : ℕ) → Passes w (field w)
+unfolding pass
+field-passes w = record { at = λ bs v rest e. rw e }
+
+pub got-passes : {A : Type 0} (x : A) → Passes 0 (λ bs. got x bs)
+got-passes x = record { at = λ bs a rest e. pass-before (record { used = []; split = cc; long = refl }) }
+
+-- a reader held to n bits
+pub exactly-passes : {A : Type 0} (n : ℕ) (r : Reader A) → Tail r → Passes n (exactly n r)
+exactly-passes n r t = record {
+  at = λ bs a rest e.
+      let x = exactly-got n r bs e in
+      let u = t .at bs a rest (x .inner) in
+      pass-before (record { used = u .0; split = u .1; long = omega (arith, x .long, ap length (u .1), length-append (u .0) rest) });
+}
+
+-- n bits are m bits and l more
+pub bind-passes : {A B : Type 0} (m l : ℕ) {n : ℕ} (r : Reader A) (f : A → Reader B) → m + l ≡ n → Passes m r → ((a : A) → Passes l (f a)) → Passes n (r >>= f)
+bind-passes m l {n} r f s pr pf = record {
+  at = λ bs b rest e. split-then (r bs) f e (λ a mid p q.
+      let u = pass-got m bs (pr .at bs a mid p) in
+      let v = pass-got l mid ((pf a) .at mid b rest q) in
+      pass-before (record {
+        used = u .used ++ v .used;
+        split = joined (u .used) (v .used) rest (u .split) (v .split);
+        long = omega (arith, u .long, v .long, length-append (u .used) (v .used));
+      }));
+}
+
+pub bind-follows : {A A′ B B′ : Type 0} (r : Reader A) (w : Reader A′) (g : A → A′) (f : A → Reader B) (f′ : A′ → Reader B′) (k : B → B′)
+    → Follows r w g → ((a : A) → Follows (f a) (f′ (g a)) k) → Follows (r >>= f) (w >>= f′) k
+bind-follows r w g f f′ k h hf = record { at = λ bs b rest e. split-then (r bs) f e (λ a mid p q. rw (h .at bs a mid p) (hf a .at mid b rest q)) }
+
+pub got-follows : {A B : Type 0} (a : A) (g : A → B) → Follows (λ bs. got a bs) (λ bs. got (g a) bs) g
+got-follows a g = record { at = λ bs x rest e. cc }
+
+-- r alone asks the test; what r does then may rest on it
+pub unless-follows : {A B : Type 0} (b : Bool) (n : ℕ) (f : Unit → Reader A) (w : Reader B) {g : A → B} → (b ≡ true → Follows (f tt) w g) → Follows (unless b n >>= f) w g
+unless-follows true n f w h = h refl
+unless-follows false n f w h = record { at = λ bs a rest e. refused-got e }
+
+-- the same where the test stands second
+pub unless-passes : {A B : Type 0} (b : Bool) (n m : ℕ) (r : Reader A) (f : A → Reader B) → (b ≡ true → Passes m (r >>= f)) → Passes m (r >>= λ a. unless b n >>= λ z. f a)
+unless-passes true n m r f h = h refl
+unless-passes false n m r f h = record { at = λ bs a rest e. split-then (r bs) _ e (λ x mid p q. refused-got q) }
+
+pub optional-follows : {A B : Type 0} (present : A → B) (absent : B) (b : Bool) (r : Reader A) (w : Reader Unit) → Follows r w (λ a. tt)
+    → Follows (optional present absent b r) (optional {B = Unit} (λ z. tt) tt b w) (λ x. tt)
+optional-follows present absent true r w h = bind-follows r w _ _ _ _ h (λ a. got-follows (present a) _)
+optional-follows present absent false r w h = got-follows absent _
+
+-- what r reads, w passes
+pub by-pass : {A B C : Type 0} (r : Reader A) (w : Reader Unit) (f : A → Reader B) (f′ : Unit → Reader C) {k : B → C}
+    → Follows r w (λ a. tt) → ((a : A) → Follows (f a) (f′ tt) k) → Follows (r >>= f) (w >>= f′) k
+by-pass r w f f′ h hf = bind-follows r w _ f f′ _ h hf
+
+-- both read the same
+pub by-same : {A B C : Type 0} (r : Reader A) (f : A → Reader B) (f′ : A → Reader C) {k : B → C}
+    → ((a : A) → Follows (f a) (f′ a) k) → Follows (r >>= f) (r >>= f′) k
+by-same r f f′ hf = bind-follows r r _ f f′ _ (same-follows r) hf
+
 -- with these, `search` proves a reader made of the combinators local in one line
 pub ruleset local·rules =
     (local-tail, bind-local, field-local, word-local, pass-local, got-local, refused-local, unless-local, optional-local, times-local, exactly-local)
+
+-- and with these, a head that follows its layout
+pub ruleset follows·rules =
+    (same-follows, pass-passes, field-passes, got-passes, exactly-passes, got-follows, unless-follows, optional-follows, by-pass, by-same)

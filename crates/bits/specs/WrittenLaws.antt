@@ -113,7 +113,7 @@ unfolding octetsOf
 length-octetsOf zero bs = refl
 length-octetsOf (suc n) bs = ap suc (length-octetsOf n (drop 8 bs))
 
-octets-octetsOf : (n : ℕ) (bs : Bits) → Octets (octetsOf n bs)
+pub octets-octetsOf : (n : ℕ) (bs : Bits) → Octets (octetsOf n bs)
 unfolding octetsOf
 octets-octetsOf zero bs i = lit< tt
 octets-octetsOf (suc n) bs zero = number-take-lt 8 bs

@@ -1,0 +1,115 @@
+-- Laws of numbers one after the other, and of the class of MS.
+use Prim.Native.Nat.{ℕ, _+_, _*_, _/_, _%_, _^_, _≤_, _<_}
+use native.Mathlib.Nat.{mul-assoc, mod-eq-of-lt, mul-add-div-right, mul-add-mod-self-right}
+use native.Mathlib.Omega.{arith}
+use mathlib.Core.Path.{_≡_, refl, sym, subst}
+use mathlib.Core.Bool.{Bool, true, false}
+use mathlib.Core.List.{List, [], _∷_, _++_, append-assoc}
+use lib.ListN.{length, take, drop, length-drop}
+use lib.Dec.{leb}
+use borrow.Author.Tests.{leb-true, leb-false}
+use lib.Pow.{pow-pos, pow-add, high}
+use lib.Seq.{length-take-le, take-add, drop-drop}
+use Rattle.bits.specs.PduParseError.{bufferEnded}
+use Rattle.bits.specs.Bits.{Bits, number, digits}
+use Rattle.bits.specs.BitsLaws.{number-lt, number-append}
+use Rattle.bits.specs.Reader.{got, refused, _>>=_, field, Local}
+use Rattle.bits.specs.ReaderLaws.{local·rules, got-local, bind-local, field-local, field-enough, field-short, Passes, field-passes, got-passes, bind-passes}
+use Rattle.elements.specs.Numbers.{inWidth}
+use Rattle.elements.specs.NumbersLaws.{both, number-back}
+use Rattle.elements.specs.ClassOfMs.{numbers, numbersBits, numbersFit, classWidths, classFields, classOfMs, classBits, classFits}
+use Rattle.elements.specs.declared.class_of_ms.ClassOfMs.{ClassOfMs}
+
+-- ## local, and read back
+
+pub numbers-local : (ws : List ℕ) → Local (numbers ws)
+unfolding numbers
+numbers-local [] = got-local []
+numbers-local (w ∷ ws) = bind-local (field w) _ (field-local w) (λ v. bind-local (numbers ws) _ (numbers-local ws) (λ vs. got-local (v ∷ vs)))
+
+pub numbers-back : (ws vs : List ℕ) → length ws ≡ length vs → numbersFit ws vs ≡ true → (rest : Bits)
+    → numbers ws (numbersBits ws vs ++ rest) ≡ got vs rest
+unfolding numbers numbersBits numbersFit
+numbers-back [] [] l f rest = refl
+numbers-back [] (v ∷ vs) l f rest = absurd (omega arith)
+numbers-back (w ∷ ws) [] l f rest = absurd (omega arith)
+numbers-back (w ∷ ws) (v ∷ vs) l f rest =
+    let x = both (inWidth w v) (numbersFit ws vs) f in
+    rw (append-assoc (digits w v) (numbersBits ws vs) rest)
+    (rw (number-back w v (x .0) (numbersBits ws vs ++ rest))
+    (rw (numbers-back ws vs (omega arith) (x .1) rest)))
+
+pub class-local : Local classOfMs
+unfolding classOfMs
+class-local = search (local·rules, numbers-local)
+
+pub class-back : (m : ClassOfMs) → classFits m ≡ true → (rest : Bits) → classOfMs (classBits m ++ rest) ≡ got m rest
+unfolding classOfMs classBits classFits
+class-back m f rest = rw (numbers-back classWidths (classFields m) refl f rest)
+
+-- ## numbers as parts of one word
+
+unfoldable pub sum : List ℕ → ℕ
+sum [] = 0
+sum (w ∷ ws) = w + sum ws
+
+-- the numbers of given widths that stand in the number v, the last one lowest
+unfoldable pub split : List ℕ → ℕ → List ℕ
+split [] v = []
+split (w ∷ ws) v = v / 2 ^ sum ws % 2 ^ w ∷ split ws v
+
+-- what stands above them does not matter
+split-add : (ws : List ℕ) (a v : ℕ) → split ws (a * 2 ^ sum ws + v) ≡ split ws v
+unfolding sum split
+split-add [] a v = refl
+split-add (w ∷ ws) a v =
+    let e : a * 2 ^ (w + sum ws) ≡ a * 2 ^ w * 2 ^ sum ws = rw (pow-add 2 w (sum ws)) (sym (mul-assoc a (2 ^ w) (2 ^ sum ws))) in
+    rw (e, mul-add-div-right (pow-pos (sum ws)) (a * 2 ^ w) v, mul-add-mod-self-right a (2 ^ w) (v / 2 ^ sum ws), split-add ws (a * 2 ^ w) v)
+
+numbers-passes : (ws : List ℕ) → Passes (sum ws) (numbers ws)
+unfolding numbers sum
+numbers-passes [] = got-passes []
+numbers-passes (w ∷ ws) =
+    bind-passes w (sum ws) (field w) _ refl (field-passes w)
+    (λ v. bind-passes (sum ws) 0 (numbers ws) _ (omega arith) (numbers-passes ws) (λ vs. got-passes (v ∷ vs)))
+
+-- the class of MS has 24 bits
+pub class-passes : Passes 24 classOfMs
+unfolding classOfMs sum
+class-passes = bind-passes 24 0 (numbers classWidths) _ refl (numbers-passes classWidths) (λ vs. got-passes _)
+
+-- where the bits reach, the numbers are those that stand in the number that the first bits write
+pub numbers-enough : (ws : List ℕ) (bs : Bits) → sum ws ≤ length bs → numbers ws bs ≡ got (split ws (number (take (sum ws) bs))) (drop (sum ws) bs)
+unfolding numbers sum split
+numbers-enough [] bs h = refl
+numbers-enough (w ∷ ws) bs h =
+    let n : ℕ = sum ws in
+    let hi : Bits = take w bs in
+    let lo : Bits = take n (drop w bs) in
+    let enough : n ≤ length (drop w bs) = omega (arith, length-drop w bs) in
+    let long : length lo ≡ n = length-take-le n (drop w bs) enough in
+    let hi-lt : number hi < 2 ^ w = subst (λ (m : ℕ). number hi < 2 ^ m) (length-take-le w bs (omega arith)) (number-lt hi) in
+    let lo-lt : number lo < 2 ^ n = subst (λ (m : ℕ). number lo < 2 ^ m) long (number-lt lo) in
+    let e : number (take (w + n) bs) ≡ number hi * 2 ^ n + number lo = rw (take-add w n bs, number-append hi lo, long) in
+    rw (field-enough w bs (omega arith))
+    (rw (numbers-enough ws (drop w bs) enough)
+    (rw (drop-drop n w bs, e, high (number hi) n lo-lt, mod-eq-of-lt hi-lt, split-add ws (number hi) (number lo))))
+
+-- where they do not, the numbers are refused
+pub numbers-short : (ws : List ℕ) (bs : Bits) → length bs < sum ws → numbers ws bs ≡ refused bufferEnded
+unfolding numbers sum
+numbers-short [] bs h = absurd (omega arith)
+numbers-short (w ∷ ws) bs h = go (leb w (length bs)) refl (numbers-short ws (drop w bs))
+  where
+    go : (b : Bool) → leb w (length bs) ≡ b → (length (drop w bs) < sum ws → numbers ws (drop w bs) ≡ refused bufferEnded)
+        → numbers (w ∷ ws) bs ≡ refused bufferEnded
+    go true e more = rw (field-enough w bs (leb-true _ _ e), more (omega (arith, length-drop w bs, leb-true w (length bs) e)))
+    go false e more = rw (field-short w bs (leb-false _ _ e))
+
+-- numbers one after the other are one field, split
+pub numbers-word : (ws : List ℕ) (bs : Bits) → numbers ws bs ≡ (field (sum ws) >>= λ v. got (split ws v)) bs
+numbers-word ws bs = go (leb (sum ws) (length bs)) refl
+  where
+    go : (b : Bool) → leb (sum ws) (length bs) ≡ b → numbers ws bs ≡ (field (sum ws) >>= λ v. got (split ws v)) bs
+    go true e = let h : sum ws ≤ length bs = leb-true _ _ e in rw (field-enough (sum ws) bs h) (numbers-enough ws bs h)
+    go false e = let h : length bs < sum ws = leb-false _ _ e in rw (field-short (sum ws) bs h) (numbers-short ws bs h)
