@@ -12,13 +12,13 @@ use Rattle.bits.specs.Written.{splice, octetsOf, putBits}
 use Rattle.elements.specs.Numbers.{u8Of, u64Of}
 use Rattle.elements.specs.Table.{look, header, closing, whole, piece, manyOf, many, pieces, isListed, scan}
 use Rattle.elements.specs.TableWritten.{elementBits, tableBits}
-use Rattle.elements.specs.Groups.{typeOf, listedForm, addressOf, addressBits, addressFits, uplinkAddress, uplink, uplinkBits, uplinkFits, uplinkOne, uplinkListed}
+use Rattle.elements.specs.Groups.{typeOf, listedForm, addressOf, addressBits, addressFits, uplinkAddress, uplink, downlinkAddress, downlink, attachmentInfo, uplinkBits, uplinkFits, uplinkOne, uplinkListed}
 use Rattle.elements.specs.ClassOfMs.{numbers, numbersFit, classOfMs, classOf, classBits, classFits}
 use Rattle.elements.specs.EnergySaving.{savingOf, savingFits, savingBits, aliveHasNone, othersHaveBoth}
 use Rattle.elements.specs.Generics.{kept, type3, type4, type3Bits, type4Bits, type3Fits, type4Fits}
 use Rattle.elements.specs.Lists.{uplinks, downlinks, list, listOf, listBits, listFits, listOne, listListed, each, all}
-use Rattle.elements.specs.Locations.{locationDemandFits, locationDemandBits, nestedBits, noLocationDemand}
-use Rattle.elements.specs.Kinds.{contentOf, contentBitsOf, absentType3, absentType4, absentLocationDemand}
+use Rattle.elements.specs.Locations.{demandBody, locationDemand, nested, locationDemandFits, locationDemandBits, nestedBits, noLocationDemand}
+use Rattle.elements.specs.Kinds.{isType3, contentOf, contentBitsOf, absentType3, absentType4, absentLocationDemand}
 use Rattle.elements.specs.declared.class_of_ms.ClassOfMs.{ClassOfMs}
 use Rattle.elements.specs.declared.group_identity_uplink.OptionalUplinks.{OptionalUplinks}
 use Rattle.elements.specs.declared.group_identity_downlink.OptionalDownlinks.{OptionalDownlinks}
@@ -29,6 +29,7 @@ use Rattle.messages.specs.Demand.{demandHead, demandOptions, noDemandOpt
 use Rattle.messages.specs.Accept.{acceptHead, acceptOptions, noAcceptOptions, savingOption, acceptOf, acceptMore, acceptBits, acceptAsked}
 use Rattle.messages.specs.AttachDetach.{attachDetachHead, attachDetachOf, attachDetachBits, attachDetachAsked}
 use Rattle.messages.specs.Calls.{noDemand, noAccept, noAttachDetach, ofDemand, ofAccept, ofAttachDetach, noReading, known, goodWindow, goodCall, reading, writingRefusal, writing, octetsWritten}
+use Rattle.messages.specs.declared.u_location_update_demand.DemandHead.{DemandHead}
 use Rattle.messages.specs.declared.u_location_update_demand.ULocationUpdateDemand.{ULocationUpdateDemand}
 use Rattle.messages.specs.declared.d_location_update_accept.DLocationUpdateAccept.{DLocationUpdateAccept}
 use Rattle.messages.specs.declared.d_attach_detach_group_identity.DAttachDetachGroupIdentity.{DAttachDetachGroupIdentity}
@@ -48,16 +49,21 @@ pub data Row : Type 0 where
   uplinkList : ℕ → List ℕ → Answer OptionalUplinks → Row
   downlinkList : ℕ → List ℕ → Answer OptionalDownlinks → Row
 
+-- a writing call's answer and the octets after it
+pub data Wrote : Type 0 where
+  wrote : Writing → List ℕ → Wrote
+
 abbrev pub Holds : Row → Type 0
 Holds (reads m how os first end r) = reading m how os first end ≡ r
-Holds (writes m os first end r w after) = (writing m os first end r ≡ w) × (octetsWritten m os first end r ≡ after)
+Holds (writes m os first end r w after) = wrote (writing m os first end r) (octetsWritten m os first end r) ≡ wrote w after
 Holds (classWord os a) = classOfMs (bitsOf os) ≡ a
 Holds (uplinkList n os a) = list uplinks n (bitsOf os) ≡ a
 Holds (downlinkList n os a) = list downlinks n (bitsOf os) ≡ a
 
-abbrev pub AllHold : List Row → Type 0
-AllHold [] = Unit
-AllHold (r ∷ rs) = Holds r × AllHold rs
+infixr 5 _also_
+pub data AllHold : List Row → Type 0 where
+  and-that-is-all : AllHold []
+  _also_ : {r : Row} {rs : List Row} → Holds r → AllHold rs → AllHold (r ∷ rs)
 
 abbrev accepted : ℕ → ℕ → Record → Reading
 accepted consumed skipped r = record { verdict = Accepted; place = consumed; consumed = consumed; skipped = skipped; «record» = r }
@@ -71,26 +77,32 @@ refusing n = record { verdict = Refused n; written = 0 }
 -- ## records
 
 -- update type 3, a cipher control, ciphering parameters, and an SSI
+abbrev headWith : ℕ → Option ℕ → Option ℕ → DemandHead
+headWith control parameters ssi = record {
+  «location_update_type» = 3;
+  «request_to_append_la» = 0;
+  «cipher_control» = control;
+  «ciphering_parameters» = u64Of parameters;
+  obit = 0;
+  options = record {
+    «class_of_ms» = classOption none;
+    «energy_saving_mode» = u8Of none;
+    «la_information» = u64Of none;
+    ssi = u64Of ssi;
+    «address_extension» = u64Of none;
+  };
+}
+
 abbrev demandWith : ℕ → Option ℕ → Option ℕ → ULocationUpdateDemand
-demandWith control parameters ssi =
-    demandOf (record {
-      «location_update_type» = 3;
-      «request_to_append_la» = 0;
-      «cipher_control» = control;
-      «ciphering_parameters» = u64Of parameters;
-      obit = 0;
-      options = record {
-        «class_of_ms» = classOption none;
-        «energy_saving_mode» = u8Of none;
-        «la_information» = u64Of none;
-        ssi = u64Of ssi;
-        «address_extension» = u64Of none;
-      };
-    }) []
+demandWith control parameters ssi = demandOf (headWith control parameters ssi) []
 
 -- update type 3 and nothing else
 abbrev plain : Record
 plain = ofDemand (demandWith 0 none none)
+
+-- the same with a group report response of length 2, 11 in binary
+abbrev withResponse : Record
+withResponse = ofDemand (demandOf (headWith 0 none none) (none ∷ some (isType3 (record { len = 2; «data» = 3 })) ∷ []))
 
 abbrev version7 : ClassOfMs
 version7 = classOf (0 ∷ 0 ∷ 0 ∷ 0 ∷ 0 ∷ 0 ∷ 0 ∷ 0 ∷ 0 ∷ 0 ∷ 0 ∷ 0 ∷ 0 ∷ 0 ∷ 0 ∷ 0 ∷ 7 ∷ 0 ∷ 0 ∷ 0 ∷ 0 ∷ 0 ∷ [])
@@ -159,6 +171,18 @@ rows =
     ∷ uplinkList 5 (0 ∷ []) (refused 5)
     ∷ downlinkList 6 (0 ∷ []) (got (listOf downlinks (some [])) (false ∷ false ∷ []))
     ∷ downlinkList 5 (0 ∷ []) (refused 5)
+    -- worked by hand: a location demand of length 3 whose reserved bit is 1
+    ∷ reads 2 0 (38 ∷ 65 ∷ 48 ∷ 7 ∷ 0 ∷ []) 0 35 (noReading 4 0)
+    -- a list of downlink groups of length 5; of length 7 with no entry
+    ∷ reads 10 0 (161 ∷ 184 ∷ 5 ∷ 0 ∷ []) 0 31 (noReading 5 0)
+    ∷ reads 10 0 (161 ∷ 184 ∷ 7 ∷ 0 ∷ []) 0 32 (noReading 6 0)
+    -- the listed identifier 4 twice: 7 in both readings
+    ∷ reads 2 0 (38 ∷ 65 ∷ 64 ∷ 1 ∷ 64 ∷ 0 ∷ []) 0 48 (noReading 7 0)
+    ∷ reads 2 1 (38 ∷ 65 ∷ 64 ∷ 1 ∷ 64 ∷ 0 ∷ []) 0 48 (noReading 7 0)
+    -- unlisted 13 of length 0, listed 4 of length 2, unlisted 1 of length 1, unlisted 13 of length 0; and the cut message
+    ∷ reads 2 0 (38 ∷ 65 ∷ 208 ∷ 1 ∷ 64 ∷ 5 ∷ 196 ∷ 0 ∷ 250 ∷ 0 ∷ 0 ∷ []) 0 83 (noReading 7 0)
+    ∷ reads 2 1 (38 ∷ 65 ∷ 208 ∷ 1 ∷ 64 ∷ 5 ∷ 196 ∷ 0 ∷ 250 ∷ 0 ∷ 0 ∷ []) 0 83 (accepted 83 3 withResponse)
+    ∷ reads 2 0 (38 ∷ 65 ∷ 64 ∷ 5 ∷ 128 ∷ []) 0 34 (accepted 34 0 withResponse)
     -- QUESTION 1: an unknown message, a third reading, a window past the octets, a first bit past the end
     ∷ reads 3 0 (38 ∷ 0 ∷ []) 0 10 (noReading 1 0)
     ∷ reads 2 2 (38 ∷ 0 ∷ []) 0 10 (noReading 1 0)
@@ -182,89 +206,9 @@ rows =
 
 -- EACH ROW HOLDS
 pub rows-hold : AllHold rows
-unfolding number digits bitsOf field pass times window splice octetsOf putBits look header closing whole piece manyOf many pieces isListed scan elementBits tableBits typeOf listedForm addressOf addressBits addressFits uplinkAddress uplink uplinkBits uplinkFits uplinkOne uplinkListed numbers numbersFit classOfMs classBits classFits savingFits savingBits aliveHasNone othersHaveBoth kept type3 type4 type3Bits type4Bits type3Fits type4Fits list listBits listFits listOne listListed each all locationDemandFits locationDemandBits nestedBits contentOf contentBitsOf message pduType anyOf anyPresent firstNo demandHead demandOptions demandMore demandBits demandAsked acceptHead acceptOptions acceptMore acceptBits acceptAsked attachDetachHead attachDetachBits attachDetachAsked known goodWindow goodCall reading writingRefusal writing octetsWritten
-rows-hold = (
-  refl,
-  (
-    refl,
-    (
-      refl,
-      (
-        refl,
-        (
-          refl,
-          (
-            (refl, refl),
-            (
-              refl,
-              (
-                refl,
-                (
-                  refl,
-                  (
-                    refl,
-                    (
-                      refl,
-                      (
-                        refl,
-                        (
-                          refl,
-                          (
-                            refl,
-                            (
-                              refl,
-                              (
-                                refl,
-                                (
-                                  refl,
-                                  (
-                                    refl,
-                                    (
-                                      refl,
-                                      (
-                                        refl,
-                                        (
-                                          refl,
-                                          (
-                                            (refl, refl),
-                                            (
-                                              (refl, refl),
-                                              (
-                                                (refl, refl),
-                                                (
-                                                  (refl, refl),
-                                                  (
-                                                    (refl, refl),
-                                                    (
-                                                      (refl, refl),
-                                                      (
-                                                        (refl, refl),
-                                                        ((refl, refl), ((refl, refl), ((refl, refl), tt))),
-                                                      ),
-                                                    ),
-                                                  ),
-                                                ),
-                                              ),
-                                            ),
-                                          ),
-                                        ),
-                                      ),
-                                    ),
-                                  ),
-                                ),
-                              ),
-                            ),
-                          ),
-                        ),
-                      ),
-                    ),
-                  ),
-                ),
-              ),
-            ),
-          ),
-        ),
-      ),
-    ),
-  ),
-)
+unfolding number digits bitsOf field pass times window splice octetsOf putBits look header closing whole piece manyOf many pieces demandBody locationDemand nested downlink downlinkAddress attachmentInfo isListed scan elementBits tableBits typeOf listedForm addressOf addressBits addressFits uplinkAddress uplink uplinkBits uplinkFits uplinkOne uplinkListed numbers numbersFit classOfMs classBits classFits savingFits savingBits aliveHasNone othersHaveBoth kept type3 type4 type3Bits type4Bits type3Fits type4Fits list listBits listFits listOne listListed each all locationDemandFits locationDemandBits nestedBits contentOf contentBitsOf message pduType anyOf anyPresent firstNo demandHead demandOptions demandMore demandBits demandAsked acceptHead acceptOptions acceptMore acceptBits acceptAsked attachDetachHead attachDetachBits attachDetachAsked known goodWindow goodCall reading writingRefusal writing octetsWritten
+rows-hold =
+    refl also refl also refl also refl also refl also refl also refl also refl also refl also refl also refl also refl also
+    refl also refl also refl also refl also refl also refl also refl also refl also refl also refl also refl also refl also
+    refl also refl also refl also refl also refl also refl also refl also refl also refl also refl also refl also refl also
+    refl also refl also refl also and-that-is-all
