@@ -7,3 +7,4 @@ pub mod Placed
 pub mod PlacedLaws
 pub mod Written
 pub mod WrittenLaws
+pub mod PlacedTimes

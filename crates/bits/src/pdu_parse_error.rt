@@ -1,7 +1,19 @@
 // The refusals' numbers, as document 01 gives them (the Rust: the enum PduParseErr).
 
+// The message or the reading is unknown, there are too many octets, or the window is not inside them.
+pub const BAD_CALL: u8 = 1;
 // A field, identifier or passed content does not end inside the window.
 pub const BUFFER_ENDED: u8 = 2;
+// The 4-bit type is not the message's own.
+pub const INVALID_PDU_TYPE: u8 = 3;
+// The reserved bit of the location demand is not 0.
+pub const INVALID_VALUE: u8 = 4;
+// A type 4 length is below the 6 bits of its number of entries.
+pub const TYPE4_UNDERFLOW: u8 = 5;
+// A structure or a list does not end where its length said.
+pub const INCONSISTENT_LENGTH: u8 = 6;
+// The closing M-bit is not 0.
+pub const INVALID_TRAILING_MBIT_VALUE: u8 = 7;
 // A number to be written is not in its width.
 pub const VALUE_TOO_LARGE: u8 = 8;
 // What is to be written does not fit the window.

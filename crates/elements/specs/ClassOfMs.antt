@@ -2,12 +2,14 @@
 use Prim.Native.Nat.{ℕ, _+_}
 use mathlib.Core.Path.{_≡_}
 use mathlib.Core.Bool.{Bool, true, _&&_}
+use mathlib.Core.Option.{Option}
 use mathlib.Core.List.{List, [], _∷_, _++_}
 use lib.ListN.{getD}
 use Rattle.bits.specs.Bits.{Bits, digits}
 use Rattle.bits.specs.Reader.{Reader, got, then, _>>=_, field}
-use Rattle.elements.specs.Numbers.{inWidth}
+use Rattle.elements.specs.Numbers.{isPresent, valueOr, inWidth}
 use Rattle.elements.specs.declared.class_of_ms.ClassOfMs.{ClassOfMs}
+use Rattle.elements.specs.declared.class_of_ms.OptionalClassOfMs.{OptionalClassOfMs}
 
 -- ## numbers of given widths, one after the other
 
@@ -69,6 +71,9 @@ classOf vs = record {
 
 abbrev pub noClass : ClassOfMs
 noClass = classOf []
+
+abbrev pub classOption : Option ClassOfMs → OptionalClassOfMs
+classOption o = record { present = isPresent o; value = valueOr noClass o }
 
 unfoldable pub classOfMs : Reader ClassOfMs
 classOfMs = numbers classWidths >>= λ vs. got (classOf vs)

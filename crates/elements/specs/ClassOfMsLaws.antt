@@ -1,6 +1,6 @@
 -- Laws of numbers one after the other, and of the class of MS.
 use Prim.Native.Nat.{ℕ, _+_, _*_, _/_, _%_, _^_, _≤_, _<_}
-use native.Mathlib.Nat.{mul-assoc, mod-eq-of-lt, mul-add-div-right, mul-add-mod-self-right}
+use native.Mathlib.Nat.{mul-assoc, mod-eq-of-lt, mul-add-div-right, mul-add-mod-self-right, div-one}
 use native.Mathlib.Omega.{arith}
 use mathlib.Core.Path.{_≡_, refl, sym, subst}
 use mathlib.Core.Bool.{Bool, true, false}
@@ -13,11 +13,15 @@ use lib.Seq.{length-take-le, take-add, drop-drop}
 use Rattle.bits.specs.PduParseError.{bufferEnded}
 use Rattle.bits.specs.Bits.{Bits, number, digits}
 use Rattle.bits.specs.BitsLaws.{number-lt, number-append}
-use Rattle.bits.specs.Reader.{got, refused, _>>=_, field, Local}
-use Rattle.bits.specs.ReaderLaws.{local·rules, got-local, bind-local, field-local, field-enough, field-short, Passes, field-passes, got-passes, bind-passes}
+use Rattle.bits.specs.Reader.{Answer, got, refused, then, _>>=_, field, Local}
+use Rattle.bits.specs.ReaderLaws.{local·rules, local-tail, got-local, bind-local, field-local, field-enough, field-short, Passes, field-passes, got-passes, bind-passes}
+use Rattle.bits.specs.Placed.{window, placed, halted}
+use Rattle.bits.specs.PlacedLaws.{Gives, step, stop, done}
+use Rattle.bits.specs.PlacedTimes.{alike}
+use Rattle.bits.specs.declared.bitbuffer.Cursor.{Cursor}
 use Rattle.elements.specs.Numbers.{inWidth}
 use Rattle.elements.specs.NumbersLaws.{both, number-back}
-use Rattle.elements.specs.ClassOfMs.{numbers, numbersBits, numbersFit, classWidths, classFields, classOfMs, classBits, classFits}
+use Rattle.elements.specs.ClassOfMs.{numbers, numbersBits, numbersFit, classWidths, classFields, classOf, classOfMs, classBits, classFits}
 use Rattle.elements.specs.declared.class_of_ms.ClassOfMs.{ClassOfMs}
 
 -- ## local, and read back
@@ -113,3 +117,48 @@ numbers-word ws bs = go (leb (sum ws) (length bs)) refl
     go : (b : Bool) → leb (sum ws) (length bs) ≡ b → numbers ws bs ≡ (field (sum ws) >>= λ v. got (split ws v)) bs
     go true e = let h : sum ws ≤ length bs = leb-true _ _ e in rw (field-enough (sum ws) bs h) (numbers-enough ws bs h)
     go false e = let h : length bs < sum ws = leb-false _ _ e in rw (field-short (sum ws) bs h) (numbers-short ws bs h)
+
+-- ## the class of MS is one field of 24 bits, split
+
+class-word : (bs : Bits) → classOfMs bs ≡ (field 24 >>= λ v. got (classOf (split classWidths v))) bs
+unfolding classOfMs sum
+class-word bs = rw (numbers-word classWidths bs) (go (field 24 bs))
+  where
+    go : (x : Answer ℕ) → then (then x (λ v. got (split classWidths v))) (λ vs. got (classOf vs)) ≡ then x (λ v. got (classOf (split classWidths v)))
+    go (got v rest) = refl
+    go (refused n) = refl
+
+module _ {os : List ℕ} {c : Cursor} where
+  pub class-there : {v : ℕ} {k : Cursor} → Gives (field 24) os c (placed v k) → Gives classOfMs os c (placed (classOf (split classWidths v)) k)
+  class-there e = alike _ (class-word (window os c)) (step (λ v. got (classOf (split classWidths v))) e (local-tail (field-local 24)) done)
+
+  pub class-ended : {n : ℕ} → Gives (field 24) os c (halted n) → Gives classOfMs os c (halted n)
+  class-ended e = alike _ (class-word (window os c)) (stop (λ v. got (classOf (split classWidths v))) e)
+
+-- the fields of a word
+pub class-fields : (v : ℕ) → record {
+  «freq_simplex_duplex» = v / 8388608 % 2;
+  «multislot_phase_mod» = v / 4194304 % 2;
+  «concurrent_multicarrier» = v / 2097152 % 2;
+  voice = v / 1048576 % 2;
+  «e2e_encryption_not_supported» = v / 524288 % 2;
+  «circuit_mode_data» = v / 262144 % 2;
+  «tetra_packet_data» = v / 131072 % 2;
+  «fast_switching» = v / 65536 % 2;
+  «dck_encryption» = v / 32768 % 2;
+  «clch_needed» = v / 16384 % 2;
+  «concurrent_circuit_mode» = v / 8192 % 2;
+  «original_advanced_link» = v / 4096 % 2;
+  «minimum_mode» = v / 2048 % 2;
+  «carrier_specific_signalling» = v / 1024 % 2;
+  authentication = v / 512 % 2;
+  «sck_encryption» = v / 256 % 2;
+  «air_interface_version» = v / 32 % 8;
+  «common_scch» = v / 16 % 2;
+  «reserved_21» = v / 8 % 2;
+  «mac_d_blck» = v / 4 % 2;
+  «extended_advanced_link» = v / 2 % 2;
+  d8psk = v % 2;
+} ≡ classOf (split classWidths v)
+unfolding sum split
+class-fields v = rw (div-one v)

@@ -11,6 +11,7 @@ use Rattle.bits.specs.Reader.{Reader, got, _>>=_, field}
 use Rattle.elements.specs.Numbers.{isPresent, valueOr, held, optionAll, inWidth, u8Of, inU8, Same, SameU8}
 use Rattle.elements.specs.declared.typed_pdu_fields.OptionalU8.{OptionalU8}
 use Rattle.elements.specs.declared.energy_saving_information.EnergySavingInformation.{EnergySavingInformation}
+use Rattle.elements.specs.declared.energy_saving_information.OptionalEnergySavingInformation.{OptionalEnergySavingInformation}
 
 abbrev pub savingModeWidth : ℕ
 savingModeWidth = 3
@@ -29,6 +30,9 @@ savingOf m f n = record { «energy_saving_mode» = m; «frame_number» = u8Of f;
 
 abbrev pub noSaving : EnergySavingInformation
 noSaving = savingOf 0 none none
+
+abbrev pub savingOption : Option EnergySavingInformation → OptionalEnergySavingInformation
+savingOption o = record { present = isPresent o; value = valueOr noSaving o }
 
 unfoldable pub energySaving : Reader EnergySavingInformation
 energySaving =

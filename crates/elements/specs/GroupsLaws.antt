@@ -20,13 +20,25 @@ use Rattle.elements.specs.declared.group_identity_downlink.GroupIdentity
 
 -- ## local
 
+pub uplinkAddress-local : Local uplinkAddress
+unfolding uplinkAddress addressOf
+uplinkAddress-local = search local·rules depth 16
+
+pub downlinkAddress-local : Local downlinkAddress
+unfolding downlinkAddress addressOf
+downlinkAddress-local = search local·rules depth 16
+
+pub attachmentInfo-local : Local attachmentInfo
+unfolding attachmentInfo
+attachmentInfo-local = search local·rules depth 8
+
 pub uplink-local : Local uplink
-unfolding uplink uplinkAddress addressOf
-uplink-local = search local·rules depth 16
+unfolding uplink
+uplink-local = search (local·rules, uplinkAddress-local) depth 16
 
 pub downlink-local : Local downlink
-unfolding downlink downlinkAddress addressOf attachmentInfo
-downlink-local = search local·rules depth 16
+unfolding downlink
+downlink-local = search (local·rules, downlinkAddress-local, attachmentInfo-local) depth 16
 
 -- ## address types
 

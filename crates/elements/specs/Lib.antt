@@ -21,3 +21,14 @@ pub mod LocationsLaws
 pub mod Kinds
 pub mod KindsLaws
 pub mod Numbered
+pub mod Rows
+pub mod Answers
+pub mod GroupAnswers
+pub mod Verdicts
+pub mod PlacedTable
+pub mod PlacedOptional
+pub mod PlacedGroups
+pub mod PlacedLists
+pub mod PlacedLocations
+pub mod Slotted
+pub mod PlacedScan

@@ -59,13 +59,13 @@ downlinks-sound = record {
 }
 
 -- the entries that follow their number
-abbrev entriesOf : {G L : Type 0} → Groups G L → ℕ → Reader L
+abbrev pub entriesOf : {G L : Type 0} → Groups G L → ℕ → Reader L
 entriesOf k m = times m (k .group) >>= λ gs. got (listOf k (some gs))
 
 module _ {G L : Type 0} {k : Groups G L} (s : Sound k) where
   -- ## what a list's reader uses
 
-  entries-local : (m : ℕ) → Local (entriesOf k m)
+  pub entries-local : (m : ℕ) → Local (entriesOf k m)
   entries-local m = bind-local (times m (k .group)) _ (times-local m (k .group) (s .local)) (λ gs. got-local _)
 
   pub list-local : (n : ℕ) → Local (list k n)

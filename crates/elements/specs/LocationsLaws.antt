@@ -118,7 +118,7 @@ module _ {G L D : Type 0} {k : Groups G L} (s : Sound k) (i : ℕ) (of : ℕ →
 
 -- ## location demand
 
-abbrev demandOf : ℕ → OptionalUplinks → GroupIdentityLocationDemand
+abbrev pub demandOf : ℕ → OptionalUplinks → GroupIdentityLocationDemand
 demandOf m l = record { «group_identity_attach_detach_mode» = m; «group_identity_uplink» = l }
 
 demand-front : Front {D = GroupIdentityLocationDemand} (λ f. field flagWidth >>= λ r. unless (eqb r 0) invalidValue >>= λ z. field flagWidth >>= f)
@@ -136,6 +136,10 @@ pub location-demand-fits : (d : GroupIdentityLocationDemand) → locationDemandF
     → (inWidth flagWidth (d .«group_identity_attach_detach_mode») ≡ true) × (listFits uplinks (d .«group_identity_uplink») ≡ true)
 unfolding locationDemandFits
 location-demand-fits d = both (inWidth flagWidth (d .«group_identity_attach_detach_mode»)) (listFits uplinks (d .«group_identity_uplink»))
+
+pub demand-body-local : Local demandBody
+unfolding demandBody
+demand-body-local = body-local uplinks-sound groupIdentityUplink demandOf demand-front
 
 pub location-demand-local : (n : ℕ) → Local (locationDemand n)
 unfolding locationDemand demandBody
@@ -170,7 +174,7 @@ location-demand-normal-same d f full = record { mode = refl; list = list-normal-
 
 -- ## location accept
 
-abbrev acceptOf : ℕ → OptionalDownlinks → GroupIdentityLocationAccept
+abbrev pub acceptOf : ℕ → OptionalDownlinks → GroupIdentityLocationAccept
 acceptOf m l = record { «group_identity_accept_reject» = m; «group_identity_downlink» = l }
 
 accept-front : Front {D = GroupIdentityLocationAccept} (λ f. field flagWidth >>= λ a. pass flagWidth >>= λ z. f a)
@@ -188,6 +192,10 @@ pub location-accept-fits : (d : GroupIdentityLocationAccept) → locationAcceptF
     → (inWidth flagWidth (d .«group_identity_accept_reject») ≡ true) × (listFits downlinks (d .«group_identity_downlink») ≡ true)
 unfolding locationAcceptFits
 location-accept-fits d = both (inWidth flagWidth (d .«group_identity_accept_reject»)) (listFits downlinks (d .«group_identity_downlink»))
+
+pub accept-body-local : Local acceptBody
+unfolding acceptBody
+accept-body-local = body-local downlinks-sound groupIdentityDownlink acceptOf accept-front
 
 pub location-accept-local : (n : ℕ) → Local (locationAccept n)
 unfolding locationAccept acceptBody

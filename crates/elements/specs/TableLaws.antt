@@ -173,7 +173,7 @@ pub record Stands (bs : Bits) (p : Piece) (mid : Bits) : Type 0 where
 pub stands-looks : {bs : Bits} {p : Piece} {mid : Bits} → Stands bs p mid → look bs ≡ opens (p .identifier)
 stands-looks {mid = mid} s = ap look (s .split) ∙ s .element .looks mid
 
-stands-shrinks : {bs : Bits} {p : Piece} {mid : Bits} → Stands bs p mid → length mid < length bs
+pub stands-shrinks : {bs : Bits} {p : Piece} {mid : Bits} → Stands bs p mid → length mid < length bs
 stands-shrinks {bs} {p} {mid} s = go (p .bits) (s .split) (s .element .looks [])
   where
     go : (u : Bits) → bs ≡ u ++ mid → look (u ++ []) ≡ opens (p .identifier) → length mid < length bs
@@ -422,7 +422,7 @@ module _ {S A : Type 0} (identifier : S → ℕ) (content : S → ℕ → Reader
       at ends = sf none
       at (opens i) = test (eqb i (identifier s))
 
-  slot-tail : (s : S) → Tail (slot identifier content s)
+  pub slot-tail : (s : S) → Tail (slot identifier content s)
   slot-tail s = look-tail (slot-at identifier content s) at
     where
       test : (b : Bool) → Tail (slot-if identifier content s b)
@@ -435,7 +435,7 @@ module _ {S A : Type 0} (identifier : S → ℕ) (content : S → ℕ → Reader
       at (opens i) = test (eqb i (identifier s))
 
   module _ (listed : ℕ → Bool) where
-    skip-tail : (b : Bool) → Tail (skip identifier content listed b)
+    pub skip-tail : (b : Bool) → Tail (skip identifier content listed b)
     skip-tail true = bind-tail (pieces listed) _ (pieces-tail listed) (λ ps. search local·rules)
     skip-tail false = search local·rules
 

@@ -1,5 +1,24 @@
-// Group identity uplink (EN 300 392-2, clause 16.10.27). Flat and without padding, the widest fields first: a list has 63 of
-// them, and is cleared as one block.
+// Group identity uplink (EN 300 392-2, clause 16.10.27).
+ghost use mathlib.Core.Path.{_≡_};
+ghost use mathlib.Core.Option.{none};
+ghost use Prim.Native.Nat.{_≤_};
+ghost use Rattle.bits.specs.Placed.{at, refusal};
+ghost use Rattle.elements.specs.Groups.{uplink};
+ghost use Rattle.elements.specs.Lists.{uplinks, listOf, list};
+ghost use Rattle.elements.specs.Rows.{sized};
+ghost use Rattle.elements.specs.GroupAnswers.{asUplink, uplinksAnswer, groupsRead};
+use crate::group_address::AddressRead;
+use crate::group_address::read_uplink_address;
+use crate::typed_pdu_fields::OptionalU8Read;
+use crate::typed_pdu_fields::read_optional_u8;
+use bits::bitbuffer::Cursor;
+use bits::bitbuffer::Field;
+use bits::bitbuffer::Field8;
+use bits::bitbuffer::Moved;
+use bits::pdu_parse_error::INCONSISTENT_LENGTH;
+use bits::pdu_parse_error::TYPE4_UNDERFLOW;
+
+// Flat and without padding, the widest fields first: a list has 63 of them, and is cleared as one block.
 pub struct GroupIdentityUplink {
     pub gssi: u32,
     pub address_extension: u32,
@@ -18,4 +37,157 @@ pub struct OptionalUplinks {
     pub present: bool,
     pub count: usize,
     pub groups: [GroupIdentityUplink; 63],
+}
+
+pub enum UplinkRead {
+    Read(GroupIdentityUplink, Cursor),
+    Refused(u8),
+}
+
+impl UplinkRead {
+    pub fn refusal(self) -> u8
+        ensures { λ n. ⌜ n ≡ refusal (asUplink self) ⌝ }
+    {
+        match self {
+            UplinkRead::Read(_, _) => 0,
+            UplinkRead::Refused(n) => n,
+        }
+    }
+}
+
+pub struct UplinksRead {
+    pub verdict: Moved,
+    pub list: OptionalUplinks,
+}
+
+const ZERO: GroupIdentityUplink = GroupIdentityUplink {
+    gssi: 0,
+    address_extension: 0,
+    vgssi: 0,
+    class_of_usage: 0,
+    class_of_usage_present: false,
+    group_identity_detachment_uplink_present: false,
+    group_identity_detachment_uplink: 0,
+    gssi_present: false,
+    address_extension_present: false,
+    vgssi_present: false,
+};
+
+pub fn no_uplinks() -> OptionalUplinks
+    ensures { λ r. ⌜ r ≡ listOf uplinks none ⌝ }
+{
+    let groups = [ZERO; 63];
+    OptionalUplinks {
+        present: false,
+        count: 0,
+        groups: groups,
+    }
+}
+
+impl GroupIdentityUplink {
+    pub fn from_bitbuf(c: Cursor, octets: &[u8]) -> UplinkRead
+        ensures { λ r. ⌜ asUplink r ≡ at uplink (now (octets .entry)) c ⌝ }
+    {
+        let k = c.read_u8(octets, 1);
+        let Field8::Value(attach_detach_type_identifier, c1) = k else {
+            return UplinkRead::Refused(k.refusal());
+        };
+        let u = read_optional_u8(c1, octets, attach_detach_type_identifier == 0, 3);
+        let OptionalU8Read::Read(class_of_usage, c2) = u else {
+            return UplinkRead::Refused(u.refusal());
+        };
+        let d = read_optional_u8(c2, octets, attach_detach_type_identifier == 1, 2);
+        let OptionalU8Read::Read(detachment, c3) = d else {
+            return UplinkRead::Refused(d.refusal());
+        };
+        let a = read_uplink_address(c3, octets);
+        let AddressRead::Read(address, c4) = a else {
+            return UplinkRead::Refused(a.refusal());
+        };
+        UplinkRead::Read(
+            GroupIdentityUplink {
+                gssi: address.gssi,
+                address_extension: address.address_extension,
+                vgssi: address.vgssi,
+                class_of_usage: class_of_usage.value as u16,
+                class_of_usage_present: class_of_usage.present,
+                group_identity_detachment_uplink_present: detachment.present,
+                group_identity_detachment_uplink: detachment.value,
+                gssi_present: address.gssi_present,
+                address_extension_present: address.address_extension_present,
+                vgssi_present: address.vgssi_present,
+            },
+            c4,
+        )
+    }
+}
+
+// `count` groups, one after the other.
+fn read_uplinks(c: Cursor, octets: &[u8], count: usize) -> UplinksRead
+    requires { ⌜ count ≤ 63 ⌝ }
+    ensures { λ r. ⌜ r ≡ uplinksAnswer (at (groupsRead uplinks count) (now (octets .entry)) c) ⌝ }
+{
+    let mut groups = [ZERO; 63];
+    let mut place = c;
+    let mut i: usize = 0;
+    while i < count {
+        let f = GroupIdentityUplink::from_bitbuf(place, octets);
+        let UplinkRead::Read(g, next) = f else {
+            return UplinksRead {
+                verdict: Moved::Refused(f.refusal()),
+                list: no_uplinks(),
+            };
+        };
+        groups[i] = g;
+        place = next;
+        i += 1;
+    }
+    UplinksRead {
+        verdict: Moved::To(place),
+        list: OptionalUplinks {
+            present: true,
+            count: count,
+            groups: groups,
+        },
+    }
+}
+
+// A list of groups, from its length on: it has to end where its length said.
+pub fn parse_uplinks(c: Cursor, octets: &[u8]) -> UplinksRead
+    ensures { λ r. ⌜ r ≡ uplinksAnswer (at (sized (list uplinks)) (now (octets .entry)) c) ⌝ }
+{
+    let f = c.read(octets, 11);
+    let Field::Value(len, c1) = f else {
+        return UplinksRead {
+            verdict: Moved::Refused(f.refusal()),
+            list: no_uplinks(),
+        };
+    };
+    let k = c1.read_u8(octets, 6);
+    let Field8::Value(elems, c2) = k else {
+        return UplinksRead {
+            verdict: Moved::Refused(k.refusal()),
+            list: no_uplinks(),
+        };
+    };
+    if len < 6 {
+        return UplinksRead {
+            verdict: Moved::Refused(TYPE4_UNDERFLOW),
+            list: no_uplinks(),
+        };
+    }
+    let r = read_uplinks(c2, octets, elems as usize);
+    let v = r.verdict;
+    let Moved::To(c3) = v else {
+        return r;
+    };
+    let start = c2.at;
+    let end = c3.at;
+    if end - start == len as usize - 6 {
+        return r;
+    }
+    UplinksRead {
+        verdict: Moved::Refused(INCONSISTENT_LENGTH),
+        list: no_uplinks(),
+    }
 }

@@ -2,6 +2,7 @@
 pub mod class_of_ms;
 pub mod energy_saving_information;
 pub mod energy_saving_mode;
+pub mod group_address;
 pub mod group_identity_attachment;
 pub mod group_identity_downlink;
 pub mod group_identity_location_accept;

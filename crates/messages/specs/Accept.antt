@@ -8,16 +8,18 @@ use lib.ListN.{getD}
 use lib.Dec.{eqb}
 use Rattle.bits.specs.Bits.{Bits, digits}
 use Rattle.bits.specs.Reader.{Reader, got, _>>=_, field, pass}
-use Rattle.elements.specs.Numbers.{held, isPresent, valueOr, optionBits, optionAll, optionMap, inWidth, u64Of, inU64, SameU64, Same, flagWidth, type2, type2Bits, announced}
-use Rattle.elements.specs.EnergySaving.{energySaving, savingBits, savingFits, aliveHasNone, othersHaveBoth, savingNormal, SameSaving, noSaving}
+use Rattle.elements.specs.Numbers.{held, optionBits, optionAll, optionMap, inWidth, u64Of, inU64, SameU64, Same, flagWidth, type2, type2Bits, announced}
+use Rattle.elements.specs.EnergySaving.{energySaving, savingBits, savingFits, aliveHasNone, othersHaveBoth, savingNormal, SameSaving, savingOption}
 use Rattle.elements.specs.Generics.{type3Fits, type4Fits}
 use Rattle.elements.specs.Lists.{downlinks, listOne, listListed, listBits, listHeld}
 use Rattle.elements.specs.Locations.{locationAcceptFits, locationAcceptBits, locationAcceptNormal, SameLocationAccept}
 use Rattle.elements.specs.TableWritten.{tableBits}
 use Rattle.elements.specs.Kinds.{Slot, row, genericType3, genericType4, ofLocationAccept, Element, isLocationAccept, heldElement, identifierOf, contentBits, type3Held, type3Slot, type3Option, SameType3, type4Held, type4Slot, type4Option, SameType4, locationAcceptOption}
 use Rattle.elements.specs.declared.energy_saving_information.EnergySavingInformation.{EnergySavingInformation}
-use Rattle.elements.specs.declared.energy_saving_information.OptionalEnergySavingInformation.{OptionalEnergySavingInformation}
 use Rattle.elements.specs.declared.group_identity_location_accept.GroupIdentityLocationAccept.{GroupIdentityLocationAccept}
+use Rattle.elements.specs.declared.typed_pdu_fields.OptionalType3.{OptionalType3}
+use Rattle.elements.specs.declared.typed_pdu_fields.OptionalType4.{OptionalType4}
+use Rattle.elements.specs.declared.group_identity_location_accept.OptionalLocationAccept.{OptionalLocationAccept}
 use Rattle.messages.specs.Head.{pduTypeWidth, dLocationUpdateAccept, pduType, layoutOptions, anyOf, anyPresent, updateTypeWidth, ssiWidth, extensionWidth}
 use Rattle.messages.specs.Questions.{Asked, lengthFits}
 use Rattle.messages.specs.declared.d_location_update_accept.AcceptOptions.{AcceptOptions}
@@ -37,9 +39,6 @@ abbrev pub scchWidth : ℕ
 scchWidth = 6
 
 -- ## reading
-
-abbrev pub savingOption : Option EnergySavingInformation → OptionalEnergySavingInformation
-savingOption o = record { present = isPresent o; value = valueOr noSaving o }
 
 unfoldable pub acceptOptions : Reader AcceptOptions
 acceptOptions =
@@ -83,23 +82,27 @@ acceptTable =
     row 2 genericType4 ∷ row 3 genericType3 ∷ row 5 ofLocationAccept ∷ row 1 genericType3 ∷ row 10 genericType3 ∷ row 12 genericType4
     ∷ row 13 genericType3 ∷ row 15 genericType3 ∷ []
 
-abbrev pub acceptOf : AcceptHead → List (Option Element) → DLocationUpdateAccept
-acceptOf h vs = record {
+-- the record, of the head, the slot that is not generic and the generic slots
+abbrev pub acceptWith : AcceptHead → OptionalLocationAccept → (ℕ → OptionalType3) → (ℕ → OptionalType4) → DLocationUpdateAccept
+acceptWith h l type3 type4 = record {
   «location_update_accept_type» = h .«location_update_accept_type»;
   ssi = h .options .ssi;
   «address_extension» = h .options .«address_extension»;
   «subscriber_class» = h .options .«subscriber_class»;
   «energy_saving_information» = h .options .«energy_saving_information»;
   «scch_information_and_distribution_on_18th_frame» = h .options .«scch_information_and_distribution_on_18th_frame»;
-  «new_registered_area» = heldElement (getD vs 0 none) .type4;
-  «security_downlink» = heldElement (getD vs 1 none) .type3;
-  «group_identity_location_accept» = heldElement (getD vs 2 none) .locationAccept;
-  «default_group_attachment_lifetime» = heldElement (getD vs 3 none) .type3;
-  «authentication_downlink» = heldElement (getD vs 4 none) .type3;
-  «group_identity_security_related_information» = heldElement (getD vs 5 none) .type4;
-  «cell_type_control» = heldElement (getD vs 6 none) .type3;
-  proprietary = heldElement (getD vs 7 none) .type3;
+  «new_registered_area» = type4 0;
+  «security_downlink» = type3 1;
+  «group_identity_location_accept» = l;
+  «default_group_attachment_lifetime» = type3 3;
+  «authentication_downlink» = type3 4;
+  «group_identity_security_related_information» = type4 5;
+  «cell_type_control» = type3 6;
+  proprietary = type3 7;
 }
+
+abbrev pub acceptOf : AcceptHead → List (Option Element) → DLocationUpdateAccept
+acceptOf h vs = acceptWith h (heldElement (getD vs 2 none) .locationAccept) (λ i. heldElement (getD vs i none) .type3) (λ i. heldElement (getD vs i none) .type4)
 
 -- ## writing
 

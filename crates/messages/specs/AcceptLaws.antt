@@ -12,7 +12,7 @@ use Rattle.bits.specs.Reader.{got, field, optional, Local}
 use Rattle.bits.specs.ReaderLaws.{split-then, local·rules, follows·rules, got-local, Follows, field-passes, got-follows}
 use Rattle.elements.specs.Numbers.{held, isPresent, valueOr, optionAll, optionMap, inWidth, u64Of, inU64, flagWidth, type2, type2Bits, announced}
 use Rattle.elements.specs.NumbersLaws.{both, number-back, one-bit, type2-back, type2-number-back, held-option, same-held, same-map, same-self, same-normal, sameU64, sameU64-self}
-use Rattle.elements.specs.EnergySaving.{energySaving, savingBits, savingFits, aliveHasNone, othersHaveBoth, savingNormal, noSaving}
+use Rattle.elements.specs.EnergySaving.{energySaving, savingBits, savingFits, aliveHasNone, othersHaveBoth, savingNormal, noSaving, savingOption}
 use Rattle.elements.specs.EnergySavingLaws.{saving-local, saving-passes, saving-back, saving-same, saving-normal-same, saving-own}
 use Rattle.elements.specs.Generics.{noType3, noType4, type3Fits, type4Fits}
 use Rattle.elements.specs.Table.{Counted, counted, isListed}
@@ -27,7 +27,7 @@ use Rattle.messages.specs.QuestionsLaws.{six}
 use Rattle.messages.specs.Format.{message}
 use Rattle.messages.specs.FormatLaws.{format-back, format-own}
 use Rattle.messages.specs.SlotsLaws.{slotsNormal, SlotsRead, SlotsOwn, slot-own, type3-slot, type4-slot, location-accept-slot, type3-own, type4-own, location-accept-own}
-use Rattle.messages.specs.Accept.{subscriberClassWidth, energySavingWidth, scchWidth, savingOption, acceptOptions, noAcceptOptions, acceptOptionsIf, acceptHead, acceptLayout, acceptTable, acceptOf, savingIn, acceptLocationIn, acceptSlots, acceptMore, acceptBits, acceptAsked, acceptNormal, SameAccept}
+use Rattle.messages.specs.Accept.{subscriberClassWidth, energySavingWidth, scchWidth, acceptOptions, noAcceptOptions, acceptOptionsIf, acceptHead, acceptLayout, acceptTable, acceptOf, savingIn, acceptLocationIn, acceptSlots, acceptMore, acceptBits, acceptAsked, acceptNormal, SameAccept}
 use Rattle.messages.specs.Calls.{ofAccept, acceptFormat}
 use Rattle.messages.specs.declared.d_location_update_accept.AcceptOptions.{AcceptOptions}
 use Rattle.messages.specs.declared.d_location_update_accept.AcceptHead.{AcceptHead}
@@ -36,14 +36,14 @@ use Rattle.messages.specs.declared.Record.{Record}
 
 -- ## local, and passed by the layout
 
-options-local : (b : Bool) → Local (acceptOptionsIf b)
+pub accept-options-local : (b : Bool) → Local (acceptOptionsIf b)
 unfolding acceptOptions
-options-local true = search (type2-local, local·rules, saving-local) depth 16
-options-local false = got-local noAcceptOptions
+accept-options-local true = search (type2-local, local·rules, saving-local) depth 16
+accept-options-local false = got-local noAcceptOptions
 
 pub accept-head-local : Local acceptHead
 unfolding acceptHead
-accept-head-local = search (local·rules, type-local, options-local) depth 16
+accept-head-local = search (local·rules, type-local, accept-options-local) depth 16
 
 pub accept-layout-local : Local acceptLayout
 unfolding acceptLayout

@@ -1,4 +1,5 @@
 -- D-ATTACH/DETACH GROUP IDENTITY (EN 300 392-2, clause 16.9.2.1): how it is read and written, and what is asked of its record.
+use Prim.Native.Nat.{ℕ}
 use mathlib.Core.Path.{_≡_}
 use mathlib.Core.Bool.{Bool, true, not, _&&_}
 use mathlib.Core.Option.{Option, none}
@@ -12,6 +13,9 @@ use Rattle.elements.specs.Generics.{type3Fits, type4Fits}
 use Rattle.elements.specs.Lists.{downlinks, listFits, listOne, listListed, listBits, listHeld, listNormal, SameList}
 use Rattle.elements.specs.TableWritten.{tableBits}
 use Rattle.elements.specs.Kinds.{Slot, row, genericType3, genericType4, ofDownlinks, Element, isDownlinks, heldElement, identifierOf, contentBits, type3Held, type3Slot, type3Option, SameType3, type4Held, type4Slot, type4Option, SameType4}
+use Rattle.elements.specs.declared.typed_pdu_fields.OptionalType3.{OptionalType3}
+use Rattle.elements.specs.declared.typed_pdu_fields.OptionalType4.{OptionalType4}
+use Rattle.elements.specs.declared.group_identity_downlink.OptionalDownlinks.{OptionalDownlinks}
 use Rattle.messages.specs.Head.{pduTypeWidth, dAttachDetachGroupIdentity, pduType, anyPresent}
 use Rattle.messages.specs.Questions.{Asked, lengthFits}
 use Rattle.messages.specs.declared.d_attach_detach_group_identity.AttachDetachHead.{AttachDetachHead}
@@ -37,16 +41,20 @@ attachDetachLayout = pass pduTypeWidth >>= λ z. pass flagWidth >>= λ z. pass f
 abbrev pub attachDetachTable : List Slot
 attachDetachTable = row 15 genericType3 ∷ row 4 genericType3 ∷ row 7 ofDownlinks ∷ row 12 genericType4 ∷ []
 
-abbrev pub attachDetachOf : AttachDetachHead → List (Option Element) → DAttachDetachGroupIdentity
-attachDetachOf h vs = record {
+-- the record, of the head, the slot that is not generic and the generic slots
+abbrev pub attachDetachWith : AttachDetachHead → OptionalDownlinks → (ℕ → OptionalType3) → (ℕ → OptionalType4) → DAttachDetachGroupIdentity
+attachDetachWith h l type3 type4 = record {
   «group_identity_report» = h .«group_identity_report»;
   «group_identity_acknowledgement_request» = h .«group_identity_acknowledgement_request»;
   «group_identity_attach_detach_mode» = h .«group_identity_attach_detach_mode»;
-  proprietary = heldElement (getD vs 0 none) .type3;
-  «group_report_response» = heldElement (getD vs 1 none) .type3;
-  «group_identity_downlink» = heldElement (getD vs 2 none) .downlinks;
-  «group_identity_security_related_information» = heldElement (getD vs 3 none) .type4;
+  proprietary = type3 0;
+  «group_report_response» = type3 1;
+  «group_identity_downlink» = l;
+  «group_identity_security_related_information» = type4 3;
 }
+
+abbrev pub attachDetachOf : AttachDetachHead → List (Option Element) → DAttachDetachGroupIdentity
+attachDetachOf h vs = attachDetachWith h (heldElement (getD vs 2 none) .downlinks) (λ i. heldElement (getD vs i none) .type3) (λ i. heldElement (getD vs i none) .type4)
 
 -- ## writing
 

@@ -8,8 +8,8 @@ use lib.ListN.{getD}
 use lib.Dec.{eqb}
 use Rattle.bits.specs.Bits.{Bits, digits}
 use Rattle.bits.specs.Reader.{Reader, got, _>>=_, field, pass}
-use Rattle.elements.specs.Numbers.{held, isPresent, valueOr, optionalNumber, optionBits, optionAll, optionMap, inWidth, u8Of, inU8, u64Of, inU64, SameU8, SameU64, Same, flagWidth, type2, type2Bits, announced}
-use Rattle.elements.specs.ClassOfMs.{classOfMs, classBits, classFits, noClass}
+use Rattle.elements.specs.Numbers.{held, optionalNumber, optionBits, optionAll, optionMap, inWidth, u8Of, inU8, u64Of, inU64, SameU8, SameU64, Same, flagWidth, type2, type2Bits, announced}
+use Rattle.elements.specs.ClassOfMs.{classOfMs, classBits, classFits, classOption}
 use Rattle.elements.specs.EnergySaving.{savingModeWidth}
 use Rattle.elements.specs.Generics.{type3Fits}
 use Rattle.elements.specs.Lists.{uplinks, listOne, listListed, listBits, listHeld}
@@ -17,8 +17,9 @@ use Rattle.elements.specs.Locations.{locationDemandFits, locationDemandBits, lo
 use Rattle.elements.specs.TableWritten.{tableBits}
 use Rattle.elements.specs.Kinds.{Slot, row, genericType3, ofLocationDemand, Element, isLocationDemand, heldElement, identifierOf, contentBits, type3Held, type3Slot, type3Option, SameType3, locationDemandOption}
 use Rattle.elements.specs.declared.class_of_ms.ClassOfMs.{ClassOfMs}
-use Rattle.elements.specs.declared.class_of_ms.OptionalClassOfMs.{OptionalClassOfMs}
 use Rattle.elements.specs.declared.group_identity_location_demand.GroupIdentityLocationDemand.{GroupIdentityLocationDemand}
+use Rattle.elements.specs.declared.typed_pdu_fields.OptionalType3.{OptionalType3}
+use Rattle.elements.specs.declared.group_identity_location_demand.OptionalLocationDemand.{OptionalLocationDemand}
 use Rattle.messages.specs.Head.{pduTypeWidth, uLocationUpdateDemand, pduType, passIf, layoutOptions, anyOf, anyPresent, updateTypeWidth, ssiWidth, extensionWidth}
 use Rattle.messages.specs.Questions.{Asked, lengthFits}
 use Rattle.messages.specs.declared.u_location_update_demand.DemandOptions.{DemandOptions}
@@ -44,9 +45,6 @@ laValueWidth = 14
 
 abbrev pub halved : ℕ → ℕ
 halved v = v / 2
-
-abbrev pub classOption : Option ClassOfMs → OptionalClassOfMs
-classOption o = record { present = isPresent o; value = valueOr noClass o }
 
 unfoldable pub demandOptions : Reader DemandOptions
 demandOptions =
@@ -96,8 +94,9 @@ demandLayout =
 abbrev pub demandTable : List Slot
 demandTable = row 3 ofLocationDemand ∷ row 4 genericType3 ∷ row 9 genericType3 ∷ row 11 genericType3 ∷ row 15 genericType3 ∷ []
 
-abbrev pub demandOf : DemandHead → List (Option Element) → ULocationUpdateDemand
-demandOf h vs = record {
+-- the record, of the head, the slot that is not generic and the generic slots
+abbrev pub demandWith : DemandHead → OptionalLocationDemand → (ℕ → OptionalType3) → ULocationUpdateDemand
+demandWith h l type3 = record {
   «location_update_type» = h .«location_update_type»;
   «request_to_append_la» = h .«request_to_append_la»;
   «cipher_control» = h .«cipher_control»;
@@ -107,12 +106,15 @@ demandOf h vs = record {
   «la_information» = h .options .«la_information»;
   ssi = h .options .ssi;
   «address_extension» = h .options .«address_extension»;
-  «group_identity_location_demand» = heldElement (getD vs 0 none) .locationDemand;
-  «group_report_response» = heldElement (getD vs 1 none) .type3;
-  «authentication_uplink» = heldElement (getD vs 2 none) .type3;
-  «extended_capabilities» = heldElement (getD vs 3 none) .type3;
-  proprietary = heldElement (getD vs 4 none) .type3;
+  «group_identity_location_demand» = l;
+  «group_report_response» = type3 1;
+  «authentication_uplink» = type3 2;
+  «extended_capabilities» = type3 3;
+  proprietary = type3 4;
 }
+
+abbrev pub demandOf : DemandHead → List (Option Element) → ULocationUpdateDemand
+demandOf h vs = demandWith h (heldElement (getD vs 0 none) .locationDemand) (λ i. heldElement (getD vs i none) .type3)
 
 -- ## writing
 

@@ -13,7 +13,7 @@ use Rattle.bits.specs.Reader.{got, field, Local}
 use Rattle.bits.specs.ReaderLaws.{split-then, local·rules, follows·rules, got-local, Follows, field-passes, got-follows, field-back}
 use Rattle.elements.specs.Numbers.{held, isPresent, optionalNumber, optionAll, optionMap, optionBits, inWidth, u8Of, inU8, u64Of, inU64, flagWidth, type2, type2Bits, announced}
 use Rattle.elements.specs.NumbersLaws.{never, both, number-back, one-bit, type2-back, type2-same-back, type2-number-back, optionalNumber-back, held-option, same-held, same-map, same-self, same-normal, sameU8, sameU8-self, sameU64, sameU64-self}
-use Rattle.elements.specs.ClassOfMs.{classOfMs, classBits, classFits, noClass}
+use Rattle.elements.specs.ClassOfMs.{classOfMs, classBits, classFits, noClass, classOption}
 use Rattle.elements.specs.ClassOfMsLaws.{class-local, class-passes, class-back}
 use Rattle.elements.specs.EnergySaving.{savingModeWidth}
 use Rattle.elements.specs.Generics.{noType3, type3Fits}
@@ -29,7 +29,7 @@ use Rattle.messages.specs.QuestionsLaws.{six}
 use Rattle.messages.specs.Format.{message}
 use Rattle.messages.specs.FormatLaws.{format-back, format-own}
 use Rattle.messages.specs.SlotsLaws.{slotsNormal, SlotsRead, SlotsOwn, slot-own, type3-slot, location-demand-slot, type3-own, location-demand-own}
-use Rattle.messages.specs.Demand.{cipheringWidth, classWidth, laWidth, laValueWidth, halved, classOption, demandOptions, noDemandOptions, demandOptionsIf, demandHead, demandLayout, demandTable, demandOf, classIn, locationIn, demandSlots, demandMore, demandBits, demandAsked, demandNormal, SameDemand}
+use Rattle.messages.specs.Demand.{cipheringWidth, classWidth, laWidth, laValueWidth, halved, demandOptions, noDemandOptions, demandOptionsIf, demandHead, demandLayout, demandTable, demandOf, classIn, locationIn, demandSlots, demandMore, demandBits, demandAsked, demandNormal, SameDemand}
 use Rattle.messages.specs.Calls.{ofDemand, demandFormat}
 use Rattle.messages.specs.declared.u_location_update_demand.DemandOptions.{DemandOptions}
 use Rattle.messages.specs.declared.u_location_update_demand.DemandHead.{DemandHead}
@@ -38,14 +38,14 @@ use Rattle.messages.specs.declared.Record.{Record}
 
 -- ## local, and passed by the layout
 
-options-local : (b : Bool) → Local (demandOptionsIf b)
+pub demand-options-local : (b : Bool) → Local (demandOptionsIf b)
 unfolding demandOptions
-options-local true = search (type2-local, local·rules, class-local) depth 16
-options-local false = got-local noDemandOptions
+demand-options-local true = search (type2-local, local·rules, class-local) depth 16
+demand-options-local false = got-local noDemandOptions
 
 pub demand-head-local : Local demandHead
 unfolding demandHead
-demand-head-local = search (local·rules, type-local, options-local) depth 16
+demand-head-local = search (local·rules, type-local, demand-options-local) depth 16
 
 pub demand-layout-local : Local demandLayout
 unfolding demandLayout

@@ -13,7 +13,7 @@ use Rattle.elements.specs.Numbers.{u8Of, u64Of}
 use Rattle.elements.specs.Table.{look, header, closing, whole, piece, manyOf, many, pieces, isListed, scan}
 use Rattle.elements.specs.TableWritten.{elementBits, tableBits}
 use Rattle.elements.specs.Groups.{typeOf, listedForm, addressOf, addressBits, addressFits, uplinkAddress, uplink, downlinkAddress, downlink, attachmentInfo, uplinkBits, uplinkFits, uplinkOne, uplinkListed}
-use Rattle.elements.specs.ClassOfMs.{numbers, numbersFit, classOfMs, classOf, classBits, classFits}
+use Rattle.elements.specs.ClassOfMs.{numbers, numbersFit, classOfMs, classOf, classBits, classFits, classOption}
 use Rattle.elements.specs.EnergySaving.{savingOf, savingFits, savingBits, aliveHasNone, othersHaveBoth}
 use Rattle.elements.specs.Generics.{kept, type3, type4, type3Bits, type4Bits, type3Fits, type4Fits}
 use Rattle.elements.specs.Lists.{uplinks, downlinks, list, listOf, listBits, listFits, listOne, listListed, each, all}
@@ -25,8 +25,8 @@ use Rattle.elements.specs.declared.group_identity_downlink.OptionalDownlinks.{O
 use Rattle.messages.specs.Format.{message}
 use Rattle.messages.specs.Head.{pduType, anyOf, anyPresent}
 use Rattle.messages.specs.Questions.{firstNo}
-use Rattle.messages.specs.Demand.{demandHead, demandOptions, noDemandOptions, classOption, demandOf, demandMore, demandBits, demandAsked}
-use Rattle.messages.specs.Accept.{acceptHead, acceptOptions, noAcceptOptions, savingOption, acceptOf, acceptMore, acceptBits, acceptAsked}
+use Rattle.messages.specs.Demand.{demandHead, demandOptions, noDemandOptions, demandOf, demandMore, demandBits, demandAsked}
+use Rattle.messages.specs.Accept.{acceptHead, acceptOptions, noAcceptOptions, acceptOf, acceptMore, acceptBits, acceptAsked}
 use Rattle.messages.specs.AttachDetach.{attachDetachHead, attachDetachOf, attachDetachBits, attachDetachAsked}
 use Rattle.messages.specs.Calls.{noDemand, noAccept, noAttachDetach, ofDemand, ofAccept, ofAttachDetach, noReading, known, goodWindow, goodCall, reading, writingRefusal, writing, octetsWritten}
 use Rattle.messages.specs.declared.u_location_update_demand.DemandHead.{DemandHead}

@@ -2,6 +2,7 @@ pub mod Format
 pub mod Demand3
 pub mod Head
 pub mod HeadLaws
+pub mod PlacedHeads
 pub mod Questions
 pub mod QuestionsLaws
 pub mod FormatLaws
@@ -15,6 +16,7 @@ pub mod AcceptLaws
 pub mod AttachDetachLaws
 pub mod MessageLaws
 pub mod ReadBack
+pub mod MessageAnswers
 pub mod CallNumbers
 pub mod Demand3Calls
 pub mod RoundTrip

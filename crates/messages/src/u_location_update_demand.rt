@@ -1,9 +1,30 @@
 // U-LOCATION UPDATE DEMAND (EN 300 392-2, clause 16.9.3.4).
+ghost use mathlib.Core.Path.{_≡_};
+ghost use Rattle.bits.specs.Placed.{at, refusal};
+ghost use Rattle.messages.specs.Demand.{demandOptions, demandOptionsIf, demandHead};
+ghost use Rattle.messages.specs.Calls.{noDemand};
+ghost use Rattle.messages.specs.MessageAnswers.{asDemandOptions, asDemandHead, demandFrom};
+use bits::bitbuffer::Cursor;
+use bits::bitbuffer::Field8;
+use bits::pdu_parse_error::INVALID_PDU_TYPE;
+use elements::class_of_ms::ClassRead;
 use elements::class_of_ms::OptionalClassOfMs;
+use elements::class_of_ms::no_class_of_ms;
+use elements::class_of_ms::parse_type2_class_of_ms;
 use elements::group_identity_location_demand::OptionalLocationDemand;
+use elements::group_identity_location_demand::no_location_demand;
+use elements::mm_pdu_type_ul::U_LOCATION_UPDATE_DEMAND;
+use elements::typed_pdu_fields::ABSENT;
+use elements::typed_pdu_fields::Generic;
 use elements::typed_pdu_fields::OptionalType3;
 use elements::typed_pdu_fields::OptionalU8;
+use elements::typed_pdu_fields::OptionalU8Read;
 use elements::typed_pdu_fields::OptionalU64;
+use elements::typed_pdu_fields::OptionalU64Read;
+use elements::typed_pdu_fields::parse_type2_generic;
+use elements::typed_pdu_fields::parse_type2_u8;
+use elements::typed_pdu_fields::read_optional_u64;
+use elements::typed_pdu_fields::type3_of;
 
 // The type 2 elements.
 pub struct DemandOptions {
@@ -39,4 +60,215 @@ pub struct ULocationUpdateDemand {
     pub authentication_uplink: OptionalType3,
     pub extended_capabilities: OptionalType3,
     pub proprietary: OptionalType3,
+}
+
+pub enum DemandOptionsRead {
+    Read(DemandOptions, Cursor),
+    Refused(u8),
+}
+
+impl DemandOptionsRead {
+    pub fn refusal(self) -> u8
+        ensures { λ n. ⌜ n ≡ refusal (asDemandOptions self) ⌝ }
+    {
+        match self {
+            DemandOptionsRead::Read(_, _) => 0,
+            DemandOptionsRead::Refused(n) => n,
+        }
+    }
+}
+
+pub enum DemandHeadRead {
+    Read(DemandHead, Cursor),
+    Refused(u8),
+}
+
+impl DemandHeadRead {
+    pub fn refusal(self) -> u8
+        ensures { λ n. ⌜ n ≡ refusal (asDemandHead self) ⌝ }
+    {
+        match self {
+            DemandHeadRead::Read(_, _) => 0,
+            DemandHeadRead::Refused(n) => n,
+        }
+    }
+}
+
+// Class of MS, energy saving mode, LA, SSI and address extension; the record holds half of the LA field.
+fn read_options(c: Cursor, octets: &[u8]) -> DemandOptionsRead
+    ensures { λ r. ⌜ asDemandOptions r ≡ at demandOptions (now (octets .entry)) c ⌝ }
+{
+    let k = parse_type2_class_of_ms(c, octets);
+    let ClassRead::Read(class_of_ms, c1) = k else {
+        return DemandOptionsRead::Refused(k.refusal());
+    };
+    let m = parse_type2_u8(c1, octets, 3);
+    let OptionalU8Read::Read(energy_saving_mode, c2) = m else {
+        return DemandOptionsRead::Refused(m.refusal());
+    };
+    let l = parse_type2_generic(c2, octets, 15);
+    let OptionalU64Read::Read(la, c3) = l else {
+        return DemandOptionsRead::Refused(l.refusal());
+    };
+    let s = parse_type2_generic(c3, octets, 24);
+    let OptionalU64Read::Read(ssi, c4) = s else {
+        return DemandOptionsRead::Refused(s.refusal());
+    };
+    let e = parse_type2_generic(c4, octets, 24);
+    let OptionalU64Read::Read(address_extension, c5) = e else {
+        return DemandOptionsRead::Refused(e.refusal());
+    };
+    DemandOptionsRead::Read(
+        DemandOptions {
+            class_of_ms: class_of_ms,
+            energy_saving_mode: energy_saving_mode,
+            la_information: OptionalU64 {
+                present: la.present,
+                value: la.value / 2,
+            },
+            ssi: ssi,
+            address_extension: address_extension,
+        },
+        c5,
+    )
+}
+
+const NO_NUMBER: OptionalU64 = OptionalU64 {
+    present: false,
+    value: 0,
+};
+
+const NO_MODE: OptionalU8 = OptionalU8 {
+    present: false,
+    value: 0,
+};
+
+// The same behind an O-bit of 1.
+fn read_options_if(c: Cursor, octets: &[u8], more: bool) -> DemandOptionsRead
+    ensures { λ r. ⌜ asDemandOptions r ≡ at (demandOptionsIf more) (now (octets .entry)) c ⌝ }
+{
+    if more {
+        return read_options(c, octets);
+    }
+    DemandOptionsRead::Read(
+        DemandOptions {
+            class_of_ms: OptionalClassOfMs {
+                present: false,
+                value: no_class_of_ms(),
+            },
+            energy_saving_mode: NO_MODE,
+            la_information: NO_NUMBER,
+            ssi: NO_NUMBER,
+            address_extension: NO_NUMBER,
+        },
+        c,
+    )
+}
+
+// The type and the fields up to the O-bit, the O-bit and the type 2 elements.
+fn read_head(c: Cursor, octets: &[u8]) -> DemandHeadRead
+    ensures { λ r. ⌜ asDemandHead r ≡ at demandHead (now (octets .entry)) c ⌝ }
+{
+    let t = c.read_u8(octets, 4);
+    let Field8::Value(pdu_type, c1) = t else {
+        return DemandHeadRead::Refused(t.refusal());
+    };
+    if pdu_type == U_LOCATION_UPDATE_DEMAND {
+        let u = c1.read_u8(octets, 3);
+        let Field8::Value(update_type, c2) = u else {
+            return DemandHeadRead::Refused(u.refusal());
+        };
+        let a = c2.read_u8(octets, 1);
+        let Field8::Value(append, c3) = a else {
+            return DemandHeadRead::Refused(a.refusal());
+        };
+        let k = c3.read_u8(octets, 1);
+        let Field8::Value(cipher_control, c4) = k else {
+            return DemandHeadRead::Refused(k.refusal());
+        };
+        let p = read_optional_u64(c4, octets, cipher_control == 1, 10);
+        let OptionalU64Read::Read(ciphering, c5) = p else {
+            return DemandHeadRead::Refused(p.refusal());
+        };
+        let o = c5.read_u8(octets, 1);
+        let Field8::Value(obit, c6) = o else {
+            return DemandHeadRead::Refused(o.refusal());
+        };
+        let r = read_options_if(c6, octets, obit == 1);
+        let DemandOptionsRead::Read(options, c7) = r else {
+            return DemandHeadRead::Refused(r.refusal());
+        };
+        return DemandHeadRead::Read(
+            DemandHead {
+                location_update_type: update_type,
+                request_to_append_la: append,
+                cipher_control: cipher_control,
+                ciphering_parameters: ciphering,
+                obit: obit,
+                options: options,
+            },
+            c7,
+        );
+    }
+    DemandHeadRead::Refused(INVALID_PDU_TYPE)
+}
+
+pub fn no_demand() -> ULocationUpdateDemand
+    ensures { λ r. ⌜ r ≡ noDemand ⌝ }
+{
+    ULocationUpdateDemand {
+        location_update_type: 0,
+        request_to_append_la: 0,
+        cipher_control: 0,
+        ciphering_parameters: NO_NUMBER,
+        class_of_ms: OptionalClassOfMs {
+            present: false,
+            value: no_class_of_ms(),
+        },
+        energy_saving_mode: NO_MODE,
+        la_information: NO_NUMBER,
+        ssi: NO_NUMBER,
+        address_extension: NO_NUMBER,
+        group_identity_location_demand: OptionalLocationDemand {
+            present: false,
+            value: no_location_demand(),
+        },
+        group_report_response: type3_of(ABSENT),
+        authentication_uplink: type3_of(ABSENT),
+        extended_capabilities: type3_of(ABSENT),
+        proprietary: type3_of(ABSENT),
+    }
+}
+
+// The record, of the head, the location demand and the generic slots.
+fn record_of(
+    head: DemandHead,
+    location: OptionalLocationDemand,
+    generics: [Generic; 8],
+) -> ULocationUpdateDemand
+    ensures { λ r. ⌜ r ≡ demandFrom head location generics ⌝ }
+{
+    let ciphering_parameters = head.ciphering_parameters;
+    let options = head.options;
+    let class_of_ms = options.class_of_ms;
+    let energy_saving_mode = options.energy_saving_mode;
+    let la_information = options.la_information;
+    let ssi = options.ssi;
+    let address_extension = options.address_extension;
+    ULocationUpdateDemand {
+        location_update_type: head.location_update_type,
+        request_to_append_la: head.request_to_append_la,
+        cipher_control: head.cipher_control,
+        ciphering_parameters: ciphering_parameters,
+        class_of_ms: class_of_ms,
+        energy_saving_mode: energy_saving_mode,
+        la_information: la_information,
+        ssi: ssi,
+        address_extension: address_extension,
+        group_identity_location_demand: location,
+        group_report_response: type3_of(generics[1]),
+        authentication_uplink: type3_of(generics[2]),
+        extended_capabilities: type3_of(generics[3]),
+        proprietary: type3_of(generics[4]),
+    }
 }

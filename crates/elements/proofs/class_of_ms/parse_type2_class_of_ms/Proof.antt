@@ -1,0 +1,88 @@
+-- `elements::class_of_ms::parse_type2_class_of_ms` meets its contract: the 22 fields are one field of 24 bits, split.
+use Rattle.bits.specs.Reader.{word}
+use Rattle.bits.specs.Placed.{asField8, asField32}
+use Rattle.bits.specs.PlacedLaws.{so, by, by-refusal, step, stop, done}
+use Rattle.elements.specs.ClassOfMsLaws.{class-local, class-there, class-ended}
+use borrow.Author.Tests.{eq-eqb, ne-eqb}
+use mathlib.Core.Path.{ap}
+use Rattle.bits.specs.ReaderLaws.{local·rules, local-tail}
+use Rattle.elements.specs.PlacedOptional.{wanted, unwanted}
+use borrow.Author.Needs.{needs}
+use Rattle.elements.proofs.class_of_ms.parse_type2_class_of_ms.Statement.{statement}
+use Rattle.elements.proofs.class_of_ms.parse_type2_class_of_ms.Tie as tie
+
+read-u8-requires : tie.Need-read-u8-requires
+read-u8-requires c κs = search needs
+
+enum-known-f : tie.Need-enum-known-f
+enum-known-f c = search needs
+
+enum-told : tie.Need-enum-told
+enum-told c = search needs
+
+refusal-requires : tie.Need-refusal-requires
+refusal-requires c κs = search needs
+
+returns : tie.Need-returns
+unfolding word
+returns c =
+    so (stop _ (by-refusal (c .before .before .before .read-u8 .ensures) (ap asField8 (c .before .enum-told .given .1)) (c .refusal .ensures)))
+
+read-u32-requires : tie.Need-read-u32-requires
+read-u32-requires c κs = search needs
+
+enum-known-w : tie.Need-enum-known-w
+enum-known-w c = search needs
+
+enum-told-2 : tie.Need-enum-told-2
+enum-told-2 c = search needs
+
+refusal-requires-2 : tie.Need-refusal-requires-2
+refusal-requires-2 c κs = search needs
+
+returns-2 : tie.Need-returns-2
+unfolding word
+returns-2 c =
+    so
+    (step _
+    (by (c .before .before .before .before .before .before .before .before .read-u8 .ensures) (ap asField8 (c .before .before .before .before .before .before .f .given .1))) (search local·rules)
+    (wanted _ _ _ (eq-eqb _ _ (c .before .before .before .before .if1 .taken))
+    (stop _ (class-ended (by-refusal (c .before .before .before .read-u32 .ensures) (ap asField32 (c .before .enum-told2 .given .1)) (c .refusal2 .ensures))))))
+
+fields-requires : tie.Need-fields-requires
+fields-requires c κs = search needs
+
+returns-3 : tie.Need-returns-3
+unfolding word
+returns-3 c =
+    rw (c .fields .ensures)
+    (so
+    (step _
+    (by (c .before .before .before .before .before .before .before .before .before .read-u8 .ensures) (ap asField8 (c .before .before .before .before .before .before .before .f .given .1))) (search local·rules)
+    (wanted _ _ _ (eq-eqb _ _ (c .before .before .before .before .before .if1 .taken))
+    (step _ (class-there (by (c .before .before .before .before .read-u32 .ensures) (ap asField32 (c .before .before .w .given .1)))) (local-tail class-local) done))))
+
+returns-4 : tie.Need-returns-4
+unfolding word
+returns-4 c =
+    so
+    (step _ (by (c .before .before .before .before .read-u8 .ensures) (ap asField8 (c .before .before .f .given .1))) (search local·rules)
+    (unwanted _ _ _ (ne-eqb _ _ (c .if1 .left))))
+
+pub parse-type2-class-of-ms-spec : {M : Type 1} → statement M
+parse-type2-class-of-ms-spec =
+    tie.close
+    (tie.spec
+    read-u8-requires
+    enum-known-f
+    enum-told
+    refusal-requires
+    returns
+    read-u32-requires
+    enum-known-w
+    enum-told-2
+    refusal-requires-2
+    returns-2
+    fields-requires
+    returns-3
+    returns-4)

@@ -1,0 +1,133 @@
+-- `elements::group_identity_location_accept::read_location_accept_slot` meets its contract: by the laws of a slot.
+use mathlib.Core.Path.{refl, ap}
+use mathlib.Core.Logic.{⊎-elim}
+use borrow.Author.Needs.{needs}
+use Rattle.bits.specs.ReaderLaws.{local·rules, local-tail}
+use Rattle.bits.specs.Reader.{word}
+use Rattle.bits.specs.Placed.{asField}
+use Rattle.bits.specs.PlacedLaws.{by, by-refusal, step, stop, done}
+use Rattle.elements.specs.Locations.{locationAccept}
+use Rattle.elements.specs.LocationsLaws.{location-accept-local}
+use Rattle.elements.specs.Kinds.{row, ofLocationAccept, isLocationAccept, contentOf, identifierOf, content}
+use Rattle.elements.specs.Answers.{asOptionalU8}
+use Rattle.elements.specs.GroupAnswers.{locationAcceptSlotAnswer, locationAcceptSlot}
+use Rattle.elements.specs.Verdicts.{answer, location-accept-beside, verdict-to, verdict-refused}
+use Rattle.elements.specs.PlacedTable.{slot-outside, slot-ends, slot-other}
+use Rattle.elements.specs.PlacedLocations.{row-there}
+use Rattle.elements.proofs.group_identity_location_accept.read_location_accept_slot.Statement.{statement}
+use Rattle.elements.proofs.group_identity_location_accept.read_location_accept_slot.Tie as tie
+
+peek-type34-mbit-and-id-requires : tie.Need-peek-type34-mbit-and-id-requires
+peek-type34-mbit-and-id-requires c κs = search needs
+
+enum-known-l : tie.Need-enum-known-l
+enum-known-l c = search needs
+
+enum-told : tie.Need-enum-told
+enum-told c = search needs
+
+refusal-requires : tie.Need-refusal-requires
+refusal-requires c κs = search needs
+
+no-location-accept-requires : tie.Need-no-location-accept-requires
+no-location-accept-requires c κs = search needs
+
+returns : tie.Need-returns
+unfolding locationAcceptSlot
+returns c =
+    rw (c .no-location-accept .ensures)
+    (answer locationAcceptSlotAnswer (slot-outside identifierOf content (row (c .before .before .before .before .before .before .args .identifier) ofLocationAccept) _
+    (by-refusal (c .before .before .before .before .peek-type34-mbit-and-id .ensures) (ap asOptionalU8 (c .before .before .enum-told .given .1)) (c .before .refusal .ensures))))
+
+read-requires : tie.Need-read-requires
+read-requires c κs = search needs
+
+enum-known-f : tie.Need-enum-known-f
+enum-known-f c = search needs
+
+enum-told-2 : tie.Need-enum-told-2
+enum-told-2 c = search needs
+
+refusal-requires-2 : tie.Need-refusal-requires-2
+refusal-requires-2 c κs = search needs
+
+no-location-accept-requires-2 : tie.Need-no-location-accept-requires-2
+no-location-accept-requires-2 c κs = search needs
+
+returns-2 : tie.Need-returns-2
+unfolding word locationAcceptSlot contentOf
+returns-2 c =
+    rw (c .no-location-accept2 .ensures)
+    (answer locationAcceptSlotAnswer
+    (row-there (c .before .before .before .before .before .before .before .before .before .before .before .before .before .args .identifier) ofLocationAccept locationAccept isLocationAccept (λ e. e .locationAccept) refl
+    (by (c .before .before .before .before .before .before .before .before .before .before .before .peek-type34-mbit-and-id .ensures) (ap asOptionalU8 (c .before .before .before .before .before .before .before .before .before .l .given .1))) (c .before .before .before .before .before .before .before .if1 .taken) (c .before .before .before .before .before .if2 .taken)
+    (stop _ (by-refusal (c .before .before .before .before .read .ensures) (ap asField (c .before .before .enum-told2 .given .1)) (c .before .refusal2 .ensures)))))
+
+from-bitbuf-requires : tie.Need-from-bitbuf-requires
+from-bitbuf-requires c κs = search needs
+
+enum-known-v : tie.Need-enum-known-v
+enum-known-v c = search needs
+
+enum-told-3 : tie.Need-enum-told-3
+enum-told-3 c = search needs
+
+no-location-accept-requires-3 : tie.Need-no-location-accept-requires-3
+no-location-accept-requires-3 c κs = search needs
+
+returns-3 : tie.Need-returns-3
+unfolding word locationAcceptSlot contentOf
+returns-3 c =
+    rw (c .before .enum-told3 .given .1, c .no-location-accept3 .ensures)
+    (answer locationAcceptSlotAnswer
+    (row-there (c .before .before .before .before .before .before .before .before .before .before .before .before .before .before .before .before .args .identifier) ofLocationAccept locationAccept isLocationAccept (λ e. e .locationAccept) refl
+    (by (c .before .before .before .before .before .before .before .before .before .before .before .before .before .before .peek-type34-mbit-and-id .ensures) (ap asOptionalU8 (c .before .before .before .before .before .before .before .before .before .before .before .before .l .given .1))) (c .before .before .before .before .before .before .before .before .before .before .if1 .taken) (c .before .before .before .before .before .before .before .before .if2 .taken)
+    (step _ (by (c .before .before .before .before .before .before .before .read .ensures) (ap asField (c .before .before .before .before .before .f .given .1))) (search local·rules)
+    (stop _ (verdict-refused location-accept-beside (c .before .before .before .from-bitbuf .ensures) (c .before .enum-told3 .given .1))))))
+
+returns-4 : tie.Need-returns-4
+unfolding word locationAcceptSlot contentOf
+returns-4 c =
+    answer locationAcceptSlotAnswer
+    (row-there (c .before .before .before .before .before .before .before .before .before .before .before .before .before .before .before .before .before .args .identifier) ofLocationAccept locationAccept isLocationAccept (λ e. e .locationAccept) refl
+    (by (c .before .before .before .before .before .before .before .before .before .before .before .before .before .before .before .peek-type34-mbit-and-id .ensures) (ap asOptionalU8 (c .before .before .before .before .before .before .before .before .before .before .before .before .before .l .given .1))) (c .before .before .before .before .before .before .before .before .before .before .before .if1 .taken) (c .before .before .before .before .before .before .before .before .before .if2 .taken)
+    (step _ (by (c .before .before .before .before .before .before .before .before .read .ensures) (ap asField (c .before .before .before .before .before .before .f .given .1))) (search local·rules)
+    (step _ (verdict-to location-accept-beside (c .before .before .before .before .from-bitbuf .ensures) (c .before .before .v .given .1)) (local-tail (location-accept-local _)) done)))
+
+no-location-accept-requires-4 : tie.Need-no-location-accept-requires-4
+no-location-accept-requires-4 c κs = search needs
+
+returns-5 : tie.Need-returns-5
+unfolding locationAcceptSlot
+returns-5 c =
+    let e = by (c .before .before .before .before .before .peek-type34-mbit-and-id .ensures) (ap asOptionalU8 (c .before .before .before .l .given .1)) in
+    rw (c .no-location-accept4 .ensures)
+    (answer locationAcceptSlotAnswer (⊎-elim
+    (λ w. slot-other identifierOf content (row (c .before .before .before .before .before .before .before .args .identifier) ofLocationAccept) _ e (w .0 .taken) (w .2 .left) done)
+    (λ w. slot-ends identifierOf content (row (c .before .before .before .before .before .before .before .args .identifier) ofLocationAccept) _ e (w .left) done)
+    (c .before .if1 .came)))
+
+pub read-location-accept-slot-spec : {M : Type 1} → statement M
+read-location-accept-slot-spec =
+    tie.close
+    (tie.spec
+    peek-type34-mbit-and-id-requires
+    enum-known-l
+    enum-told
+    refusal-requires
+    no-location-accept-requires
+    returns
+    read-requires
+    enum-known-f
+    enum-told-2
+    refusal-requires-2
+    no-location-accept-requires-2
+    returns-2
+    from-bitbuf-requires
+    enum-known-v
+    enum-told-3
+    no-location-accept-requires-3
+    returns-3
+    returns-4
+    no-location-accept-requires-4
+    returns-5)

@@ -1,0 +1,168 @@
+-- `elements::group_identity_location_demand::GroupIdentityLocationDemand::from_bitbuf` meets its contract: by the laws of a structure of a
+-- declared length.
+use Prim.Native.Nat.{ℕ, _≤_, _<_}
+use native.Mathlib.Omega.{arith}
+use mathlib.Core.List.{List}
+use mathlib.Core.Path.{ap}
+use borrow.Author.Tests.{eq-eqb, ne-eqb}
+use borrow.Author.Needs.{needs}
+use Rattle.bits.specs.PduParseError.{invalidValue}
+use Rattle.bits.specs.Reader.{got, _>>=_, field, word}
+use Rattle.bits.specs.ReaderLaws.{local·rules, local-tail}
+use Rattle.bits.specs.Placed.{Placed, placed, halted, asField8}
+use Rattle.bits.specs.PlacedLaws.{Gives, by, by-refusal, step, stop}
+use Rattle.bits.specs.PlacedTimes.{passed, failed, exact-stop}
+use Rattle.bits.specs.declared.bitbuffer.Cursor.{Cursor}
+use Rattle.elements.specs.Numbers.{flagWidth}
+use Rattle.elements.specs.Lists.{uplinks}
+use Rattle.elements.specs.ListsLaws.{uplinks-sound}
+use Rattle.elements.specs.Locations.{nested, groupIdentityUplink, demandBody, locationDemand}
+use Rattle.elements.specs.LocationsLaws.{demandOf, demand-body-local}
+use Rattle.elements.specs.GroupAnswers.{locationDemandAnswer}
+use Rattle.elements.specs.Verdicts.{answer, uplinks-beside, verdict-to, verdict-refused}
+use Rattle.elements.specs.declared.group_identity_location_demand.GroupIdentityLocationDemand.{GroupIdentityLocationDemand}
+use Rattle.elements.specs.PlacedLocations.{structure-refused, structure-on, structure-whole, structure-inexact}
+use Rattle.elements.proofs.group_identity_location_demand.GroupIdentityLocationDemand.from_bitbuf.Statement.{statement}
+use Rattle.elements.proofs.group_identity_location_demand.GroupIdentityLocationDemand.from_bitbuf.Tie as tie
+
+module _ {os : List ℕ} {c c₁ : Cursor} {r : ℕ} (e : Gives (field flagWidth) os c (placed r c₁)) where
+  -- the reserved bit is not 0
+  reserved : 0 < r → Gives demandBody os c (halted invalidValue)
+  unfolding demandBody
+  reserved h = step _ e (search local·rules) (stop _ (failed invalidValue (ne-eqb r 0 (λ q. omega arith))))
+
+  -- it is 0: behind it stand the mode and the list
+  mode-behind : r ≤ 0 → (x : Placed GroupIdentityLocationDemand)
+      → Gives (field flagWidth >>= λ m. nested uplinks groupIdentityUplink >>= λ l. got (demandOf m l)) os c₁ x → Gives demandBody os c x
+  unfolding demandBody
+  mode-behind h x g = step _ e (search local·rules) (step _ (passed invalidValue (eq-eqb r 0 (omega arith))) (search local·rules) g)
+
+  list-behind : r ≤ 0 → {m : ℕ} {c₂ : Cursor} → Gives (field flagWidth) os c₁ (placed m c₂) → (x : Placed GroupIdentityLocationDemand)
+      → Gives (nested uplinks groupIdentityUplink >>= λ l. got (demandOf m l)) os c₂ x → Gives demandBody os c x
+  list-behind h e₂ x g = mode-behind h x (step _ e₂ (search local·rules) g)
+
+read-u8-requires : tie.Need-read-u8-requires
+read-u8-requires c κs = search needs
+
+enum-known-f : tie.Need-enum-known-f
+enum-known-f c = search needs
+
+enum-told : tie.Need-enum-told
+enum-told c = search needs
+
+refusal-requires : tie.Need-refusal-requires
+refusal-requires c κs = search needs
+
+no-location-demand-requires : tie.Need-no-location-demand-requires
+no-location-demand-requires c κs = search needs
+
+returns : tie.Need-returns
+unfolding word demandBody locationDemand
+returns c =
+    rw (c .no-location-demand .ensures)
+    (answer locationDemandAnswer (exact-stop (c .before .before .before .before .before .before .args .len) (stop _ (by-refusal (c .before .before .before .before .read-u8 .ensures) (ap asField8 (c .before .before .enum-told .given .1)) (c .before .refusal .ensures)))))
+
+no-location-demand-requires-2 : tie.Need-no-location-demand-requires-2
+no-location-demand-requires-2 c κs = search needs
+
+returns-2 : tie.Need-returns-2
+unfolding word locationDemand
+returns-2 c =
+    rw (c .no-location-demand2 .ensures)
+    (answer locationDemandAnswer (exact-stop (c .before .before .before .before .before .before .before .args .len) (reserved (by (c .before .before .before .before .before .read-u8 .ensures) (ap asField8 (c .before .before .before .f .given .1))) (c .before .if1 .taken))))
+
+read-u8-requires-2 : tie.Need-read-u8-requires-2
+read-u8-requires-2 c κs = search needs
+
+enum-known-m : tie.Need-enum-known-m
+enum-known-m c = search needs
+
+enum-told-2 : tie.Need-enum-told-2
+enum-told-2 c = search needs
+
+refusal-requires-2 : tie.Need-refusal-requires-2
+refusal-requires-2 c κs = search needs
+
+no-location-demand-requires-3 : tie.Need-no-location-demand-requires-3
+no-location-demand-requires-3 c κs = search needs
+
+returns-3 : tie.Need-returns-3
+unfolding word locationDemand
+returns-3 c =
+    rw (c .no-location-demand3 .ensures)
+    (answer locationDemandAnswer (exact-stop (c .before .before .before .before .before .before .before .before .before .before .before .args .len)
+    (mode-behind (by (c .before .before .before .before .before .before .before .before .before .read-u8 .ensures) (ap asField8 (c .before .before .before .before .before .before .before .f .given .1))) (c .before .before .before .before .before .if1 .left) _
+    (stop _ (by-refusal (c .before .before .before .before .read-u82 .ensures) (ap asField8 (c .before .before .enum-told2 .given .1)) (c .before .refusal2 .ensures))))))
+
+read-list-requires : tie.Need-read-list-requires
+read-list-requires c κs = search needs
+
+enum-known-v : tie.Need-enum-known-v
+enum-known-v c = search needs
+
+enum-told-3 : tie.Need-enum-told-3
+enum-told-3 c = search needs
+
+no-location-demand-requires-4 : tie.Need-no-location-demand-requires-4
+no-location-demand-requires-4 c κs = search needs
+
+returns-4 : tie.Need-returns-4
+unfolding word locationDemand
+returns-4 c =
+    rw (c .before .enum-told3 .given .1, c .no-location-demand4 .ensures)
+    (answer locationDemandAnswer (structure-refused uplinks-sound groupIdentityUplink _ (local-tail demand-body-local)
+    (list-behind (by (c .before .before .before .before .before .before .before .before .before .before .before .before .read-u8 .ensures) (ap asField8 (c .before .before .before .before .before .before .before .before .before .before .f .given .1))) (c .before .before .before .before .before .before .before .before .if1 .left) (by (c .before .before .before .before .before .before .before .read-u82 .ensures) (ap asField8 (c .before .before .before .before .before .m .given .1)))) (c .before .before .before .before .before .before .before .before .before .before .before .before .before .before .args .len)
+    (verdict-refused uplinks-beside (c .before .before .before .read-list .ensures) (c .before .enum-told3 .given .1))))
+
+sub-if2 : tie.Need-sub-if2
+unfolding word
+sub-if2 c =
+    structure-on uplinks-sound groupIdentityUplink _ (local-tail demand-body-local)
+    (list-behind (by (c .before .before .before .before .before .before .before .before .before .before .before .before .read-u8 .ensures) (ap asField8 (c .before .before .before .before .before .before .before .before .before .before .f .given .1))) (c .before .before .before .before .before .before .before .before .if1 .left) (by (c .before .before .before .before .before .before .before .read-u82 .ensures) (ap asField8 (c .before .before .before .before .before .m .given .1)))) (c .before .before .before .before .before .before .before .before .before .before .before .before .before .before .args .len)
+    (verdict-to uplinks-beside (c .before .before .before .read-list .ensures) (c .before .v .given .1))
+
+returns-5 : tie.Need-returns-5
+unfolding word locationDemand
+returns-5 c =
+    answer locationDemandAnswer (structure-whole uplinks-sound groupIdentityUplink _ (local-tail demand-body-local)
+    (list-behind (by (c .before .before .before .before .before .before .before .before .before .before .before .before .before .before .read-u8 .ensures) (ap asField8 (c .before .before .before .before .before .before .before .before .before .before .before .before .f .given .1))) (c .before .before .before .before .before .before .before .before .before .before .if1 .left) (by (c .before .before .before .before .before .before .before .before .before .read-u82 .ensures) (ap asField8 (c .before .before .before .before .before .before .before .m .given .1)))) (c .before .before .before .before .before .before .before .before .before .before .before .before .before .before .before .before .args .len)
+    (verdict-to uplinks-beside (c .before .before .before .before .before .read-list .ensures) (c .before .before .before .v .given .1)) (c .before .if2 .taken))
+
+no-location-demand-requires-5 : tie.Need-no-location-demand-requires-5
+no-location-demand-requires-5 c κs = search needs
+
+returns-6 : tie.Need-returns-6
+unfolding word locationDemand
+returns-6 c =
+    rw (c .no-location-demand5 .ensures)
+    (answer locationDemandAnswer (structure-inexact uplinks-sound groupIdentityUplink _ (local-tail demand-body-local)
+    (list-behind (by (c .before .before .before .before .before .before .before .before .before .before .before .before .before .before .read-u8 .ensures) (ap asField8 (c .before .before .before .before .before .before .before .before .before .before .before .before .f .given .1))) (c .before .before .before .before .before .before .before .before .before .before .if1 .left) (by (c .before .before .before .before .before .before .before .before .before .read-u82 .ensures) (ap asField8 (c .before .before .before .before .before .before .before .m .given .1)))) (c .before .before .before .before .before .before .before .before .before .before .before .before .before .before .before .before .args .len)
+    (verdict-to uplinks-beside (c .before .before .before .before .before .read-list .ensures) (c .before .before .before .v .given .1)) (c .before .if2 .left)))
+
+pub from-bitbuf-spec : {M : Type 1} → statement M
+from-bitbuf-spec =
+    tie.close
+    (tie.spec
+    read-u8-requires
+    enum-known-f
+    enum-told
+    refusal-requires
+    no-location-demand-requires
+    returns
+    no-location-demand-requires-2
+    returns-2
+    read-u8-requires-2
+    enum-known-m
+    enum-told-2
+    refusal-requires-2
+    no-location-demand-requires-3
+    returns-3
+    read-list-requires
+    enum-known-v
+    enum-told-3
+    no-location-demand-requires-4
+    returns-4
+    sub-if2
+    returns-5
+    no-location-demand-requires-5
+    returns-6)

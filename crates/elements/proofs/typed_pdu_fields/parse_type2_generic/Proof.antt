@@ -1,0 +1,46 @@
+-- `elements::typed_pdu_fields::parse_type2_generic` meets its contract. Assumes nothing.
+use mathlib.Core.Path.{refl, ap}
+use borrow.Author.Needs.{needs}
+use Rattle.bits.specs.Reader.{word}
+use Rattle.bits.specs.ReaderLaws.{local·rules}
+use Rattle.bits.specs.Placed.{asField8}
+use Rattle.bits.specs.PlacedLaws.{so, by, by-refusal, step, stop}
+use Rattle.elements.proofs.typed_pdu_fields.parse_type2_generic.Statement.{statement}
+use Rattle.elements.proofs.typed_pdu_fields.parse_type2_generic.Tie as tie
+
+read-u8-requires : tie.Need-read-u8-requires
+read-u8-requires c κs = search needs
+
+enum-known-f : tie.Need-enum-known-f
+enum-known-f c = search needs
+
+enum-told : tie.Need-enum-told
+enum-told c = search needs
+
+refusal-requires : tie.Need-refusal-requires
+refusal-requires c κs = search needs
+
+returns : tie.Need-returns
+unfolding word
+returns c =
+    so (stop _ (by-refusal (c .before .before .before .read-u8 .ensures) (ap asField8 (c .before .enum-told .given .1)) (c .refusal .ensures)))
+
+read-optional-u64-requires : tie.Need-read-optional-u64-requires
+read-optional-u64-requires c κs = search needs
+
+returns-2 : tie.Need-returns-2
+unfolding word
+returns-2 c =
+    so (step _ (by (c .before .before .before .before .read-u8 .ensures) (ap asField8 (c .before .before .f .given .1))) (search local·rules) (by (c .read-optional-u64 .ensures) refl))
+
+pub parse-type2-generic-spec : {M : Type 1} → statement M
+parse-type2-generic-spec =
+    tie.close
+    (tie.spec
+    read-u8-requires
+    enum-known-f
+    enum-told
+    refusal-requires
+    returns
+    read-optional-u64-requires
+    returns-2)

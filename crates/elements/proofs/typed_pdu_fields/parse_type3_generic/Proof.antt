@@ -1,0 +1,72 @@
+-- `elements::typed_pdu_fields::parse_type3_generic` meets its contract. Assumes nothing.
+use mathlib.Core.Path.{ap}
+use borrow.Author.Needs.{needs}
+use Rattle.bits.specs.Reader.{word}
+use Rattle.bits.specs.ReaderLaws.{local·rules}
+use Rattle.bits.specs.Placed.{asField}
+use Rattle.bits.specs.PlacedLaws.{by, by-refusal, step, stop, done}
+use Rattle.elements.specs.Generics.{type3}
+use Rattle.elements.specs.GenericsLaws.{kept-local}
+use Rattle.elements.specs.Answers.{genericAnswer}
+use Rattle.elements.specs.Verdicts.{answer}
+use Rattle.elements.proofs.typed_pdu_fields.parse_type3_generic.Statement.{statement}
+use Rattle.elements.proofs.typed_pdu_fields.parse_type3_generic.Tie as tie
+
+read-requires : tie.Need-read-requires
+read-requires c κs = search needs
+
+enum-known-f : tie.Need-enum-known-f
+enum-known-f c = search needs
+
+enum-told : tie.Need-enum-told
+enum-told c = search needs
+
+refusal-requires : tie.Need-refusal-requires
+refusal-requires c κs = search needs
+
+returns : tie.Need-returns
+unfolding type3 word
+returns c =
+    answer genericAnswer (stop _ (by-refusal (c .before .before .before .read .ensures) (ap asField (c .before .enum-told .given .1)) (c .refusal .ensures)))
+
+read-kept-requires : tie.Need-read-kept-requires
+read-kept-requires c κs = search needs
+
+enum-known-d : tie.Need-enum-known-d
+enum-known-d c = search needs
+
+enum-told-2 : tie.Need-enum-told-2
+enum-told-2 c = search needs
+
+refusal-requires-2 : tie.Need-refusal-requires-2
+refusal-requires-2 c κs = search needs
+
+returns-2 : tie.Need-returns-2
+unfolding type3 word
+returns-2 c =
+    answer genericAnswer
+    (step _ (by (c .before .before .before .before .before .before .before .read .ensures) (ap asField (c .before .before .before .before .before .f .given .1))) (search local·rules)
+    (stop _ (stop _ (by-refusal (c .before .before .before .read-kept .ensures) (ap asField (c .before .enum-told2 .given .1)) (c .refusal2 .ensures)))))
+
+returns-3 : tie.Need-returns-3
+unfolding type3 word
+returns-3 c =
+    answer genericAnswer
+    (step _ (by (c .before .before .before .before .before .before .before .read .ensures) (ap asField (c .before .before .before .before .before .f .given .1))) (search local·rules)
+    (step _ (step _ (by (c .before .before .before .read-kept .ensures) (ap asField (c .before .d .given .1))) (search (local·rules, kept-local)) done) (search (local·rules, kept-local)) done))
+
+pub parse-type3-generic-spec : {M : Type 1} → statement M
+parse-type3-generic-spec =
+    tie.close
+    (tie.spec
+    read-requires
+    enum-known-f
+    enum-told
+    refusal-requires
+    returns
+    read-kept-requires
+    enum-known-d
+    enum-told-2
+    refusal-requires-2
+    returns-2
+    returns-3)

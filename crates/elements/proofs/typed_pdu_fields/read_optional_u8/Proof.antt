@@ -1,0 +1,37 @@
+-- `elements::typed_pdu_fields::read_optional_u8` meets its contract. Assumes nothing.
+use mathlib.Core.Path.{ap}
+use borrow.Author.Needs.{needs}
+use Rattle.bits.specs.ReaderLaws.{local·rules}
+use Rattle.bits.specs.Placed.{asField8}
+use Rattle.bits.specs.PlacedLaws.{so, by, by-refusal, step, stop, done}
+use Rattle.elements.proofs.typed_pdu_fields.read_optional_u8.Statement.{statement}
+use Rattle.elements.proofs.typed_pdu_fields.read_optional_u8.Tie as tie
+
+read-u8-requires : tie.Need-read-u8-requires
+read-u8-requires c κs = search needs
+
+enum-known-f : tie.Need-enum-known-f
+enum-known-f c = search needs
+
+enum-told : tie.Need-enum-told
+enum-told c = search needs
+
+refusal-requires : tie.Need-refusal-requires
+refusal-requires c κs = search needs
+
+returns : tie.Need-returns
+returns c =
+    rw (c .before .before .before .before .if1 .taken) (so (stop _ (by-refusal (c .before .before .before .read-u8 .ensures) (ap asField8 (c .before .enum-told .given .1)) (c .refusal .ensures))))
+
+returns-2 : tie.Need-returns-2
+returns-2 c =
+    rw (c .before .before .before .before .if1 .taken) (so (step _ (by (c .before .before .before .read-u8 .ensures) (ap asField8 (c .before .f .given .1))) (search local·rules) done))
+
+returns-3 : tie.Need-returns-3
+returns-3 c =
+    rw (c .if1 .left) (so done)
+
+pub read-optional-u8-spec : {M : Type 1} → statement M
+read-optional-u8-spec =
+    tie.close
+    (tie.spec read-u8-requires enum-known-f enum-told refusal-requires returns returns-2 returns-3)

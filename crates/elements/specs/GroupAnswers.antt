@@ -1,0 +1,156 @@
+-- What the code's answers say of groups, lists, structures and small elements.
+use Prim.Native.Nat.{ℕ}
+use mathlib.Core.Bool.{Bool, true, false}
+use mathlib.Core.Option.{Option, none, some}
+use mathlib.Core.List.{List}
+use lib.Dec.{eqb}
+use Rattle.bits.specs.Reader.{Reader, got, _>>=_, field, optional, times}
+use Rattle.bits.specs.Placed.{Placed, placed, halted}
+use Rattle.bits.specs.declared.bitbuffer.Moved.the-variants as M
+use Rattle.elements.specs.Numbers.{isPresent, valueOr, flagWidth}
+use Rattle.elements.specs.Table.{slot}
+use Rattle.elements.specs.Groups.{Address, noAttachment}
+use Rattle.elements.specs.ClassOfMs.{classOption, classOfMs}
+use Rattle.elements.specs.EnergySaving.{savingOption, energySaving}
+use Rattle.elements.specs.Lists.{Groups, list, listOf, uplinks, downlinks}
+use Rattle.elements.specs.Locations.{noLocationDemand, noLocationAccept}
+use Rattle.elements.specs.Kinds.{row, ofLocationDemand, ofLocationAccept, ofDownlinks, heldElement, identifierOf, content, absentLocationDemand, absentLocationAccept}
+use Rattle.elements.specs.declared.group_address.GroupAddress.{GroupAddress}
+use Rattle.elements.specs.declared.group_address.AddressRead.{AddressRead}
+use Rattle.elements.specs.declared.group_address.AddressRead.the-variants as A
+use Rattle.elements.specs.declared.group_identity_attachment.GroupIdentityAttachment.{GroupIdentityAttachment}
+use Rattle.elements.specs.declared.group_identity_attachment.OptionalAttachment.{OptionalAttachment}
+use Rattle.elements.specs.declared.group_identity_attachment.AttachmentRead.{AttachmentRead}
+use Rattle.elements.specs.declared.group_identity_attachment.AttachmentRead.the-variants as T
+use Rattle.elements.specs.declared.group_identity_uplink.GroupIdentityUplink.{GroupIdentityUplink}
+use Rattle.elements.specs.declared.group_identity_uplink.OptionalUplinks.{OptionalUplinks}
+use Rattle.elements.specs.declared.group_identity_uplink.UplinkRead.{UplinkRead}
+use Rattle.elements.specs.declared.group_identity_uplink.UplinkRead.the-variants as U
+use Rattle.elements.specs.declared.group_identity_uplink.UplinksRead.{UplinksRead}
+use Rattle.elements.specs.declared.group_identity_downlink.GroupIdentityDownlink.{GroupIdentityDownlink}
+use Rattle.elements.specs.declared.group_identity_downlink.OptionalDownlinks.{OptionalDownlinks}
+use Rattle.elements.specs.declared.group_identity_downlink.DownlinkRead.{DownlinkRead}
+use Rattle.elements.specs.declared.group_identity_downlink.DownlinkRead.the-variants as D
+use Rattle.elements.specs.declared.group_identity_downlink.DownlinksRead.{DownlinksRead}
+use Rattle.elements.specs.declared.group_identity_location_demand.GroupIdentityLocationDemand.{GroupIdentityLocationDemand}
+use Rattle.elements.specs.declared.group_identity_location_demand.OptionalLocationDemand.{OptionalLocationDemand}
+use Rattle.elements.specs.declared.group_identity_location_demand.LocationDemandRead.{LocationDemandRead}
+use Rattle.elements.specs.declared.group_identity_location_demand.LocationDemandSlot.{LocationDemandSlot}
+use Rattle.elements.specs.declared.group_identity_location_accept.GroupIdentityLocationAccept.{GroupIdentityLocationAccept}
+use Rattle.elements.specs.declared.group_identity_location_accept.OptionalLocationAccept.{OptionalLocationAccept}
+use Rattle.elements.specs.declared.group_identity_location_accept.LocationAcceptRead.{LocationAcceptRead}
+use Rattle.elements.specs.declared.group_identity_location_accept.LocationAcceptSlot.{LocationAcceptSlot}
+use Rattle.elements.specs.declared.class_of_ms.ClassOfMs.{ClassOfMs}
+use Rattle.elements.specs.declared.class_of_ms.OptionalClassOfMs.{OptionalClassOfMs}
+use Rattle.elements.specs.declared.class_of_ms.ClassRead.{ClassRead}
+use Rattle.elements.specs.declared.class_of_ms.ClassRead.the-variants as C
+use Rattle.elements.specs.declared.energy_saving_information.EnergySavingInformation.{EnergySavingInformation}
+use Rattle.elements.specs.declared.energy_saving_information.OptionalEnergySavingInformation.{OptionalEnergySavingInformation}
+use Rattle.elements.specs.declared.energy_saving_information.SavingRead.{SavingRead}
+use Rattle.elements.specs.declared.energy_saving_information.SavingRead.the-variants as E
+use Rattle.elements.specs.declared.energy_saving_information.OptionalSavingRead.{OptionalSavingRead}
+use Rattle.elements.specs.declared.energy_saving_information.OptionalSavingRead.the-variants as OE
+
+-- ## addresses and attachments
+
+abbrev pub groupAddress : Address → GroupAddress
+groupAddress a = record {
+  gssi = valueOr 0 (a .gssi);
+  «address_extension» = valueOr 0 (a .extension);
+  vgssi = valueOr 0 (a .vgssi);
+  «gssi_present» = isPresent (a .gssi);
+  «address_extension_present» = isPresent (a .extension);
+  «vgssi_present» = isPresent (a .vgssi);
+}
+
+-- an address, as the code holds it
+abbrev pub addressRead : Reader Address → Reader GroupAddress
+addressRead r = r >>= λ a. got (groupAddress a)
+
+abbrev pub asAddress : AddressRead → Placed GroupAddress
+asAddress (A.Read v c) = placed v c
+asAddress (A.Refused n) = halted n
+
+abbrev pub attachmentOf : Option GroupIdentityAttachment → OptionalAttachment
+attachmentOf o = record { present = isPresent o; value = valueOr noAttachment o }
+
+abbrev pub optionalAttachment : Bool → Reader GroupIdentityAttachment → Reader OptionalAttachment
+optionalAttachment = optional (λ v. attachmentOf (some v)) (attachmentOf none)
+
+abbrev pub asAttachment : AttachmentRead → Placed OptionalAttachment
+asAttachment (T.Read v c) = placed v c
+asAttachment (T.Refused n) = halted n
+
+-- ## groups and lists
+
+abbrev pub asUplink : UplinkRead → Placed GroupIdentityUplink
+asUplink (U.Read v c) = placed v c
+asUplink (U.Refused n) = halted n
+
+abbrev pub asDownlink : DownlinkRead → Placed GroupIdentityDownlink
+asDownlink (D.Read v c) = placed v c
+asDownlink (D.Refused n) = halted n
+
+-- a number of groups, as a list
+abbrev pub groupsRead : {G L : Type 0} → Groups G L → ℕ → Reader L
+groupsRead k n = times n (k .group) >>= λ gs. got (listOf k (some gs))
+
+abbrev pub uplinksAnswer : Placed OptionalUplinks → UplinksRead
+uplinksAnswer (placed l c) = record { verdict = M.To c; list = l }
+uplinksAnswer (halted n) = record { verdict = M.Refused n; list = listOf uplinks none }
+
+abbrev pub downlinksAnswer : Placed OptionalDownlinks → DownlinksRead
+downlinksAnswer (placed l c) = record { verdict = M.To c; list = l }
+downlinksAnswer (halted n) = record { verdict = M.Refused n; list = listOf downlinks none }
+
+-- ## structures
+
+-- the slot of a list inside a structure
+unfoldable pub nestedSlot : {G L : Type 0} → Groups G L → ℕ → Reader L
+nestedSlot k i = slot (λ i. i) (λ i. list k) i >>= λ o. got (valueOr (listOf k none) o)
+
+abbrev pub locationDemandAnswer : Placed GroupIdentityLocationDemand → LocationDemandRead
+locationDemandAnswer (placed d c) = record { verdict = M.To c; location = d }
+locationDemandAnswer (halted n) = record { verdict = M.Refused n; location = noLocationDemand }
+
+abbrev pub locationAcceptAnswer : Placed GroupIdentityLocationAccept → LocationAcceptRead
+locationAcceptAnswer (placed d c) = record { verdict = M.To c; location = d }
+locationAcceptAnswer (halted n) = record { verdict = M.Refused n; location = noLocationAccept }
+
+-- the slot of a message's table that holds the structure, or the outer list
+unfoldable pub locationDemandSlot : ℕ → Reader OptionalLocationDemand
+locationDemandSlot i = slot identifierOf content (row i ofLocationDemand) >>= λ o. got (heldElement o .locationDemand)
+
+unfoldable pub locationAcceptSlot : ℕ → Reader OptionalLocationAccept
+locationAcceptSlot i = slot identifierOf content (row i ofLocationAccept) >>= λ o. got (heldElement o .locationAccept)
+
+unfoldable pub downlinksSlot : ℕ → Reader OptionalDownlinks
+downlinksSlot i = slot identifierOf content (row i ofDownlinks) >>= λ o. got (heldElement o .downlinks)
+
+abbrev pub locationDemandSlotAnswer : Placed OptionalLocationDemand → LocationDemandSlot
+locationDemandSlotAnswer (placed d c) = record { verdict = M.To c; location = d }
+locationDemandSlotAnswer (halted n) = record { verdict = M.Refused n; location = absentLocationDemand }
+
+abbrev pub locationAcceptSlotAnswer : Placed OptionalLocationAccept → LocationAcceptSlot
+locationAcceptSlotAnswer (placed d c) = record { verdict = M.To c; location = d }
+locationAcceptSlotAnswer (halted n) = record { verdict = M.Refused n; location = absentLocationAccept }
+
+-- ## small elements
+
+abbrev pub type2Class : Reader OptionalClassOfMs
+type2Class = field flagWidth >>= λ p. optional (λ v. classOption (some v)) (classOption none) (eqb p 1) classOfMs
+
+abbrev pub asClass : ClassRead → Placed OptionalClassOfMs
+asClass (C.Read v c) = placed v c
+asClass (C.Refused n) = halted n
+
+abbrev pub asSaving : SavingRead → Placed EnergySavingInformation
+asSaving (E.Read v c) = placed v c
+asSaving (E.Refused n) = halted n
+
+abbrev pub type2Saving : Reader OptionalEnergySavingInformation
+type2Saving = field flagWidth >>= λ p. optional (λ v. savingOption (some v)) (savingOption none) (eqb p 1) energySaving
+
+abbrev pub asOptionalSaving : OptionalSavingRead → Placed OptionalEnergySavingInformation
+asOptionalSaving (OE.Read v c) = placed v c
+asOptionalSaving (OE.Refused n) = halted n

@@ -1,0 +1,118 @@
+-- A list inside a structure, a structure of a declared length, and the slots of a message's table, read at a cursor: for any kind of
+-- group, any front of a structure and any kind of content.
+use Prim.Native.Nat.{ℕ, _+_, _-_, _≤_}
+use mathlib.Core.Path.{_≡_, refl}
+use mathlib.Core.Bool.{true}
+use mathlib.Core.Option.{Option, none}
+use mathlib.Core.List.{List, [], _∷_}
+use lib.ListN.{getD}
+use borrow.Author.Tests.{eq-eqb, ne-eqb}
+use Rattle.bits.specs.PduParseError.{inconsistentLength}
+use Rattle.bits.specs.Bits.{Bits}
+use Rattle.bits.specs.Reader.{Answer, got, refused, Reader, then, _>>=_, field, exactly, Tail}
+use Rattle.bits.specs.ReaderLaws.{local·rules, local-tail, field-local, bind-tail}
+use Rattle.bits.specs.Placed.{window, Placed, placed, halted}
+use Rattle.bits.specs.PlacedLaws.{Gives, told, step, stop, done}
+use Rattle.bits.specs.PlacedTimes.{alike, exact, inexact, exact-stop}
+use Rattle.bits.specs.declared.bitbuffer.Cursor.{Cursor}
+use Rattle.elements.specs.Numbers.{flagWidth, valueOr}
+use Rattle.elements.specs.Table.{Counted, counted, closing, slot, scan}
+use Rattle.elements.specs.TableLaws.{closing-local, slot-tail}
+use Rattle.elements.specs.Lists.{Groups, list, listOf}
+use Rattle.elements.specs.ListsLaws.{Sound, list-local}
+use Rattle.elements.specs.Locations.{nested-if, nested}
+use Rattle.elements.specs.LocationsLaws.{nested-local}
+use Rattle.elements.specs.Kinds.{Kind, row, Element, heldElement, contentOf, identifierOf, content}
+use Rattle.elements.specs.Rows.{sized}
+use Rattle.elements.specs.Answers.{opening}
+use Rattle.elements.specs.GroupAnswers.{nestedSlot}
+use Rattle.elements.specs.PlacedTable.{slot-there, sized-made}
+use Rattle.elements.specs.declared.typed_pdu_fields.OptionalU8.{OptionalU8}
+
+-- a value that is given as it is
+pub kept : {A : Type 0} (r : Reader A) (bs : Bits) → (r >>= λ a. got a) bs ≡ r bs
+kept {A} r bs = go (r bs)
+  where
+    go : (y : Answer A) → then y (λ a. got a) ≡ y
+    go (got a rest) = refl
+    go (refused n) = refl
+
+pub sized-kept : {A : Type 0} (r : ℕ → Reader A) (bs : Bits) → sized (λ n. r n >>= λ a. got a) bs ≡ sized r bs
+sized-kept r bs = λ j. sized (λ n rest. kept (r n) rest j) bs
+
+-- ## a list inside a structure
+
+-- behind an O-bit of 1: the list's slot, and the closing M-bit
+nested-slot : {G L : Type 0} (k : Groups G L) (i : ℕ) (bs : Bits) → nested-if k i true bs ≡ (nestedSlot k i >>= λ l. closing >>= λ z. got l) bs
+unfolding scan nestedSlot
+nested-slot {G} {L} k i bs = go (slot (λ i. i) (λ i. list k) i bs)
+  where
+    last : (o : Option L) (y : Answer Unit)
+        → then (then (then y (λ z. got (counted 0 []))) (λ (x : Counted (List (Option L))). got (counted (0 + x .skipped) (o ∷ x .value)))) (λ x. got (valueOr (listOf k none) (getD (x .value) 0 none)))
+        ≡ then y (λ z. got (valueOr (listOf k none) o))
+    last o (got z rest) = refl
+    last o (refused n) = refl
+
+    go : (y : Answer (Option L))
+        → then (then y (λ o. (closing >>= λ z. got (counted 0 [])) >>= λ (x : Counted (List (Option L))). got (counted (0 + x .skipped) (o ∷ x .value)))) (λ x. got (valueOr (listOf k none) (getD (x .value) 0 none)))
+        ≡ then (then y (λ o. got (valueOr (listOf k none) o))) (λ l. closing >>= λ z. got l)
+    go (got o rest) = last o (closing rest)
+    go (refused n) = refl
+
+module _ {G L : Type 0} {k : Groups G L} (s : Sound k) (i : ℕ) where
+  nested-slot-tail : Tail (nestedSlot k i)
+  unfolding nestedSlot
+  nested-slot-tail = bind-tail (slot (λ i. i) (λ i. list k) i) _ (slot-tail (λ i. i) (λ i. list k) (λ j n. list-local s n) i) (λ o. search local·rules)
+
+  module _ {os : List ℕ} {c c₁ : Cursor} {o : ℕ} (e₁ : Gives (field flagWidth) os c (placed o c₁)) where
+    pub no-list : (o ≡ 1 → ⊥) → Gives (nested k i) os c (placed (listOf k none) c₁)
+    unfolding nested
+    no-list h = step _ e₁ (local-tail (field-local flagWidth)) (rw (ne-eqb o 1 h) done)
+
+    module _ (h : o ≡ 1) where
+      announced-list : {x : Placed L} → Gives (nestedSlot k i >>= λ l. closing >>= λ z. got l) os c₁ x → Gives (nested k i) os c x
+      unfolding nested
+      announced-list g =
+          step _ e₁ (local-tail (field-local flagWidth))
+          (rw (eq-eqb o 1 h) (alike (nestedSlot k i >>= λ l. closing >>= λ z. got l) (nested-slot k i (window os c₁)) g))
+
+      pub list-refused : {n : ℕ} → Gives (nestedSlot k i) os c₁ (halted n) → Gives (nested k i) os c (halted n)
+      list-refused e = announced-list (stop _ e)
+
+      module _ {l : L} {c₂ : Cursor} (e₂ : Gives (nestedSlot k i) os c₁ (placed l c₂)) where
+        pub list-unclosed : {n : ℕ} → Gives closing os c₂ (halted n) → Gives (nested k i) os c (halted n)
+        list-unclosed e = announced-list (step _ e₂ nested-slot-tail (stop _ e))
+
+        pub list-closed : {c₃ : Cursor} → Gives closing os c₂ (placed tt c₃) → Gives (nested k i) os c (placed l c₃)
+        list-closed e = announced-list (step _ e₂ nested-slot-tail (step _ e (local-tail closing-local) done))
+
+-- ## a structure of n bits: behind its front, at c₂, the list
+
+module _ {G L D : Type 0} {k : Groups G L} (s : Sound k) (i : ℕ) (of : L → D) {body : Reader D} (tail : Tail body) {os : List ℕ} {c c₂ : Cursor}
+    (front : (x : Placed D) → Gives (nested k i >>= λ l. got (of l)) os c₂ x → Gives body os c x) (n : ℕ) where
+  pub structure-refused : {m : ℕ} → Gives (nested k i) os c₂ (halted m) → Gives (exactly n body) os c (halted m)
+  structure-refused e = exact-stop n (front _ (stop _ e))
+
+  module _ {l : L} {c₃ : Cursor} (e : Gives (nested k i) os c₂ (placed l c₃)) where
+    structure-there : Gives body os c (placed (of l) c₃)
+    structure-there = front _ (step _ e (local-tail (nested-local s i)) done)
+
+    -- it ends behind where it begins
+    pub structure-on : c .at ≤ c₃ .at
+    structure-on = told tail structure-there .on
+
+    pub structure-whole : c₃ .at - c .at ≡ n → Gives (exactly n body) os c (placed (of l) c₃)
+    structure-whole q = exact n structure-there tail q
+
+    pub structure-inexact : (c₃ .at - c .at ≡ n → ⊥) → Gives (exactly n body) os c (halted inconsistentLength)
+    structure-inexact q = inexact n structure-there tail q
+
+-- ## a slot of a message's table: its content is what r gives, made into an element
+
+pub row-there : {A B : Type 0} (i : ℕ) (kind : Kind) (r : ℕ → Reader A) (is : A → Element) (out : Element → B) → contentOf kind ≡ (λ n. r n >>= λ a. got (is a))
+    → {os : List ℕ} {c c₁ : Cursor} {o : OptionalU8} → Gives opening os c (placed o c₁) → o .present ≡ true → o .value ≡ i
+    → {x : Placed B} → Gives (sized (λ n. r n >>= λ a. got (out (is a)))) os c₁ x
+    → Gives (slot identifierOf content (row i kind) >>= λ o. got (out (heldElement o))) os c x
+row-there i kind r is out made {os} {c₁ = c₁} e p h g =
+    slot-there identifierOf content (row i kind) _ e p h
+    (alike (sized (λ n. r n >>= λ a. got (out (is a)))) (rw made (sized-made r is out (window os c₁))) g)

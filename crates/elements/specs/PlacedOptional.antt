@@ -1,0 +1,60 @@
+-- What may be absent, read at a cursor; and values that the code holds in another form than the definitions, as presence and value for an option.
+use Prim.Native.Nat.{ℕ, _^_, _<_}
+use mathlib.Core.Path.{_≡_, sym, ap, _∙_}
+use mathlib.Core.Bool.{Bool, true, false}
+use mathlib.Core.Option.{Option, none, some}
+use mathlib.Core.List.{List}
+use Rattle.bits.specs.Reader.{Answer, Reader, got, refused, then, _>>=_, field, optional, Local, Tail}
+use Rattle.bits.specs.ReaderLaws.{local-tail, field-local, field-lt, got-local, bind-tail, optional-local, split-then, refused-got}
+use Rattle.bits.specs.Placed.{window, Placed, placed, halted}
+use Rattle.bits.specs.PlacedLaws.{Gives, told, told-not, gives, gives-not, done}
+use Rattle.bits.specs.PlacedTimes.{alike, optional-through}
+use Rattle.bits.specs.declared.bitbuffer.Cursor.{Cursor}
+
+-- the end, with a value that is equal
+pub ends : {A : Type 0} {a b : A} {os : List ℕ} {c : Cursor} → a ≡ b → Gives (got a) os c (placed b c)
+ends e = rw e done
+
+-- a field that was read fits its width
+pub field-small : (w : ℕ) {os : List ℕ} {c : Cursor} {v : ℕ} {k : Cursor} → Gives (field w) os c (placed v k) → v < 2 ^ w
+field-small w {os} {c} e = field-lt w (window os c) (told (local-tail (field-local w)) e .said)
+
+-- ## a reader that runs where it is wanted
+
+module _ {A B : Type 0} (present : A → B) (absent : B) (r : Reader A) {b : Bool} {os : List ℕ} {c : Cursor} where
+  pub wanted : {x : Placed B} → b ≡ true → Gives (r >>= λ a. got (present a)) os c x → Gives (optional present absent b r) os c x
+  wanted e g = rw e g
+
+  pub unwanted : b ≡ false → Gives (optional present absent b r) os c (placed absent c)
+  unwanted e = rw e done
+
+-- ## a value that the code holds as f makes it
+
+module _ {A B : Type 0} (f : A → B) (r : Reader A) {os : List ℕ} {c : Cursor} where
+  -- it was made of one that r gives (which is bound by a λ, so that it does not unfold)
+  pub made-of : {X : Type 0} {b : B} {k : Cursor} → Gives (r >>= λ a. got (f a)) os c (placed b k) → Tail r
+      → ((a : A) → f a ≡ b → Gives r os c (placed a k) → X) → X
+  made-of {X} {b} {k} e lr to =
+      let t = told (bind-tail r (λ a. got (f a)) lr (λ a. local-tail (got-local (f a)))) e in
+      split-then (r (window os c)) (λ a. got (f a)) (t .said) (λ a mid p q.
+      let m : mid ≡ window os k = cc in
+      let v : f a ≡ b = cc in
+      to a v (gives (p ∙ ap (got a) m) (t .on) (t .used) (t .same-end)))
+
+  pub made-not : {n : ℕ} → Gives (r >>= λ a. got (f a)) os c (halted n) → Gives r os c (halted n)
+  made-not {n} e = gives-not (go (r (window os c)) (told-not e))
+    where
+      go : (x : Answer A) → then x (λ a. got (f a)) ≡ refused n → x ≡ refused n
+      go (got a rest) q = refused-got (sym q)
+      go (refused m) q = cc
+
+-- the same of what may be absent
+module _ {A B : Type 0} (f : Option A → B) (b : Bool) (r : Reader A) {os : List ℕ} {c : Cursor} where
+  pub option-of : {X : Type 0} {v : B} {k : Cursor} → Gives (optional (λ a. f (some a)) (f none) b r) os c (placed v k) → Local r
+      → ((o : Option A) → f o ≡ v → Gives (optional some none b r) os c (placed o k) → X) → X
+  option-of e l to =
+      made-of f (optional some none b r) (alike (optional (λ a. f (some a)) (f none) b r) (sym (optional-through f b r (window os c))) e)
+      (local-tail (optional-local some none b r l)) to
+
+  pub option-not : {n : ℕ} → Gives (optional (λ a. f (some a)) (f none) b r) os c (halted n) → Gives (optional some none b r) os c (halted n)
+  option-not e = made-not f (optional some none b r) (alike (optional (λ a. f (some a)) (f none) b r) (sym (optional-through f b r (window os c))) e)
