@@ -231,20 +231,20 @@ module _ (listed : ℕ → Bool) where
   pieces-most (p ∷ ps) bs rest e = let m = pieces-got listed bs e in omega (arith, pieces-most ps (m .mid) rest (m .others), stands-shrinks (m .stands))
 
 module _ {S A : Type 0} (identifier : S → ℕ) (content : S → ℕ → Reader A) (local : (s : S) (n : ℕ) → Local (content s n)) (listed : ℕ → Bool) where
+  pub skip-fewer : (b : Bool) (bs : Bits) {m : ℕ} {rest : Bits} → skip identifier content listed b bs ≡ got m rest → m + length rest ≤ length bs
+  skip-fewer true bs {m} {rest} e = split-then (pieces listed bs) _ e (λ ps mid p q.
+      let all : length ps ≡ m = cc in
+      let same : mid ≡ rest = cc in
+      omega (arith, pieces-most listed ps bs rest (rw same at p)))
+  skip-fewer false bs {m} {rest} e =
+      let nothing : 0 ≡ m = cc in
+      let same : bs ≡ rest = cc in
+      omega (arith, ap length same)
+
   pub skip-most : (b : Bool) {os : List ℕ} {c k : Cursor} {m : ℕ} → Gives (skip identifier content listed b) os c (placed m k) → m + c .at ≤ k .at
   skip-most b {os} {c} {k} {m} e =
       let t = told (skip-tail identifier content local listed b) e in
-      omega (arith, go b (t .said))
-    where
-      go : (b : Bool) → skip identifier content listed b (window os c) ≡ got m (window os k) → m + length (window os k) ≤ length (window os c)
-      go true e = split-then (pieces listed (window os c)) _ e (λ ps mid p q.
-          let all : length ps ≡ m = cc in
-          let same : mid ≡ window os k = cc in
-          omega (arith, pieces-most listed ps (window os c) (window os k) (rw same at p)))
-      go false e =
-          let nothing : 0 ≡ m = cc in
-          let same : window os c ≡ window os k = cc in
-          omega (arith, ap length same)
+      omega (arith, skip-fewer b (window os c) (t .said), t .used)
 
 -- ## generic slots, one at a turn
 

@@ -4,13 +4,17 @@ use native.Mathlib.Omega.{arith}
 use mathlib.Core.Path.{_≡_, refl, sym, ap, _∙_}
 use mathlib.Core.List.{List}
 use Rattle.bits.specs.Reader.{Reader}
-use Rattle.bits.specs.Placed.{Placed, placed, halted, at}
+use Rattle.bits.specs.Placed.{Placed, placed, halted, at, asMoved, refusal}
 use Rattle.bits.specs.PlacedLaws.{Gives}
 use Rattle.bits.specs.declared.bitbuffer.Cursor.{Cursor}
 use Rattle.bits.specs.declared.bitbuffer.Moved.{Moved}
 use Rattle.bits.specs.declared.bitbuffer.Moved.the-variants as M
-use Rattle.elements.specs.Answers.{genericAnswer}
+use lib.Seq.{sets}
+use Rattle.elements.specs.Table.{Counted}
+use Rattle.elements.specs.Answers.{genericAnswer, scanAnswer}
 use Rattle.elements.specs.GroupAnswers.{uplinksAnswer, downlinksAnswer, locationDemandAnswer, locationAcceptAnswer}
+use Rattle.elements.specs.declared.typed_pdu_fields.Generic.{Generic}
+use Rattle.elements.specs.declared.typed_pdu_fields.ScanRead.{ScanRead}
 
 -- a function's own promise
 pub answer : {A X : Type 0} (f : Placed A → X) {r : Reader A} {os : List ℕ} {c : Cursor} {x : Placed A} → Gives r os c x → f x ≡ f (at r os c)
@@ -29,6 +33,10 @@ pub record Beside {A X : Type 0} (f : Placed A → X) (verdict : X → Moved) (v
 
 to-refused : {B : Type 0} {k : Cursor} {n : ℕ} → M.To k ≡ M.Refused n → B
 to-refused e = let z : _≡_ {A = ℕ} 0 1 = cc in absurd (omega arith)
+
+-- a refused verdict, by the number that its method gives
+pub numbered : {v : Moved} {k n : ℕ} → v ≡ M.Refused k → n ≡ refusal (asMoved v) → v ≡ M.Refused n
+numbered e q = e ∙ ap (λ (k : ℕ). M.Refused k) (sym (q ∙ ap (λ (m : Moved). refusal (asMoved m)) e))
 
 -- what its verdict tells
 module _ {A X : Type 0} {f : Placed A → X} {verdict : X → Moved} {value : X → A} (b : Beside f verdict value) {r : Reader A} {os : List ℕ} {c : Cursor} {y : X} where
@@ -69,3 +77,26 @@ location-demand-beside = record { to = λ d k. refl; is = λ d k. refl; not = λ
 
 pub location-accept-beside : Beside locationAcceptAnswer (λ r. r .verdict) (λ r. r .location)
 location-accept-beside = record { to = λ d k. refl; is = λ d k. refl; not = λ n. refl }
+
+-- the scan's answer: the values stand in an array
+module _ (gs : List Generic) (i : ℕ) {r : Reader (Counted (List Generic))} {os : List ℕ} {c : Cursor} {y : ScanRead} (e : y ≡ scanAnswer gs i (at r os c)) where
+  pub scan-to : {X : Type 0} {k : Cursor} → y .verdict ≡ M.To k
+      → ((x : Counted (List Generic)) → y .slots ≡ record { skipped = x .skipped; generics = sets gs i (x .value) } → Gives r os c (placed x k) → X) → X
+  scan-to {X} {k} v to = go (at r os c) refl
+    where
+      go : (p : Placed (Counted (List Generic))) → at r os c ≡ p → X
+      go (placed x j) q =
+          let h : M.To j ≡ M.To k = sym (ap (λ (z : ScanRead). z .verdict) (e ∙ ap (scanAnswer gs i) q)) ∙ v in
+          let same : j ≡ k = cc in
+          to x (ap (λ (z : ScanRead). z .slots) (e ∙ ap (scanAnswer gs i) q)) (record { eq = q ∙ ap (placed x) same })
+      go (halted n) q = to-refused (sym v ∙ ap (λ (z : ScanRead). z .verdict) (e ∙ ap (scanAnswer gs i) q))
+
+  pub scan-refused : {n : ℕ} → y .verdict ≡ M.Refused n → Gives r os c (halted n)
+  scan-refused {n} v = go (at r os c) refl
+    where
+      go : (p : Placed (Counted (List Generic))) → at r os c ≡ p → Gives r os c (halted n)
+      go (placed x j) q = to-refused (sym (ap (λ (z : ScanRead). z .verdict) (e ∙ ap (scanAnswer gs i) q)) ∙ v)
+      go (halted m) q =
+          let h : M.Refused m ≡ M.Refused n = sym (ap (λ (z : ScanRead). z .verdict) (e ∙ ap (scanAnswer gs i) q)) ∙ v in
+          let same : m ≡ n = cc in
+          record { eq = q ∙ ap halted same }

@@ -17,6 +17,7 @@ pub mod AttachDetachLaws
 pub mod MessageLaws
 pub mod ReadBack
 pub mod MessageAnswers
+pub mod PlacedMessages
 pub mod CallNumbers
 pub mod Demand3Calls
 pub mod RoundTrip

@@ -8,6 +8,9 @@ use Rattle.elements.specs.declared.typed_pdu_fields.Generic.{Generic}
 use Rattle.elements.specs.declared.group_identity_downlink.OptionalDownlinks.{OptionalDownlinks}
 use Rattle.elements.specs.declared.group_identity_location_demand.OptionalLocationDemand.{OptionalLocationDemand}
 use Rattle.elements.specs.declared.group_identity_location_accept.OptionalLocationAccept.{OptionalLocationAccept}
+use Rattle.elements.specs.Table.{Counted}
+use Rattle.elements.specs.declared.typed_pdu_fields.Skipped.the-variants as S
+use Rattle.messages.specs.Calls.{noAttachDetach}
 use Rattle.messages.specs.Demand.{demandWith}
 use Rattle.messages.specs.Accept.{acceptWith}
 use Rattle.messages.specs.AttachDetach.{attachDetachWith}
@@ -29,6 +32,8 @@ use Rattle.messages.specs.declared.d_attach_detach_group_identity.Attach
 use Rattle.messages.specs.declared.d_attach_detach_group_identity.DAttachDetachGroupIdentity.{DAttachDetachGroupIdentity}
 use Rattle.messages.specs.declared.d_attach_detach_group_identity.AttachDetachHeadRead.{AttachDetachHeadRead}
 use Rattle.messages.specs.declared.d_attach_detach_group_identity.AttachDetachHeadRead.the-variants as TH
+use Rattle.messages.specs.declared.d_attach_detach_group_identity.AttachDetachRead.{AttachDetachRead}
+use Rattle.messages.specs.declared.Record.{Record}
 
 abbrev pub asDemandOptions : DemandOptionsRead → Placed DemandOptions
 asDemandOptions (DO.Read v c) = placed v c
@@ -58,3 +63,8 @@ acceptFrom h l gs = acceptWith h l (λ i. type3From (getD gs i noGeneric)) (λ i
 
 abbrev pub attachDetachFrom : AttachDetachHead → OptionalDownlinks → List Generic → DAttachDetachGroupIdentity
 attachDetachFrom h l gs = attachDetachWith h l (λ i. type3From (getD gs i noGeneric)) (λ i. type4From (getD gs i noGeneric))
+
+-- the count skipped and the place beside the record
+abbrev pub attachDetachAnswer : Placed (Counted Record) → AttachDetachRead
+attachDetachAnswer (placed x c) = record { verdict = S.Count (x .skipped) c; «record» = x .value .«attach_detach» }
+attachDetachAnswer (halted n) = record { verdict = S.Refused n; «record» = noAttachDetach }

@@ -1,19 +1,39 @@
 // D-ATTACH/DETACH GROUP IDENTITY (EN 300 392-2, clause 16.9.2.1).
 ghost use mathlib.Core.Path.{_≡_};
-ghost use Rattle.bits.specs.Placed.{at, refusal};
+ghost use Rattle.bits.specs.Placed.{at, refusal, halted};
+ghost use mathlib.Core.Bool.{true};
+ghost use Rattle.elements.specs.Kinds.{identifierOf, content};
+ghost use Rattle.messages.specs.Format.{body, message};
 ghost use Rattle.messages.specs.AttachDetach.{attachDetachHead};
-ghost use Rattle.messages.specs.Calls.{noAttachDetach};
-ghost use Rattle.messages.specs.MessageAnswers.{asAttachDetachHead, attachDetachFrom};
+ghost use Rattle.messages.specs.Calls.{noAttachDetach, attachDetachFormat};
+ghost use Rattle.messages.specs.MessageAnswers.{asAttachDetachHead, attachDetachFrom, attachDetachAnswer};
 use bits::bitbuffer::Cursor;
 use bits::bitbuffer::Field8;
+use bits::bitbuffer::Moved;
 use bits::pdu_parse_error::INVALID_PDU_TYPE;
 use elements::group_identity_downlink::OptionalDownlinks;
 use elements::group_identity_downlink::no_downlinks;
+use elements::group_identity_downlink::read_downlinks_slot;
 use elements::mm_pdu_type_dl::D_ATTACH_DETACH_GROUP_IDENTITY;
+use elements::type34_elem_id_dl::GROUP_IDENTITY_DOWNLINK;
+use elements::type34_elem_id_dl::GROUP_IDENTITY_SECURITY_RELATED_INFORMATION;
+use elements::type34_elem_id_dl::GROUP_REPORT_RESPONSE;
+use elements::type34_elem_id_dl::PROPRIETARY;
 use elements::typed_pdu_fields::ABSENT;
+use elements::typed_pdu_fields::DOWNLINKS;
 use elements::typed_pdu_fields::Generic;
+use elements::typed_pdu_fields::NO_GENERICS;
+use elements::typed_pdu_fields::NO_ROW;
 use elements::typed_pdu_fields::OptionalType3;
 use elements::typed_pdu_fields::OptionalType4;
+use elements::typed_pdu_fields::Row;
+use elements::typed_pdu_fields::Skipped;
+use elements::typed_pdu_fields::TYPE3;
+use elements::typed_pdu_fields::TYPE4;
+use elements::typed_pdu_fields::Table;
+use elements::typed_pdu_fields::read_table_end;
+use elements::typed_pdu_fields::scan;
+use elements::typed_pdu_fields::skip_if;
 use elements::typed_pdu_fields::type3_of;
 use elements::typed_pdu_fields::type4_of;
 
@@ -119,5 +139,109 @@ fn record_of(
         group_report_response: type3_of(generics[1]),
         group_identity_downlink: list,
         group_identity_security_related_information: type4_of(generics[3]),
+    }
+}
+
+// The count skipped and the place, or the refusal; and the record beside it.
+pub struct AttachDetachRead {
+    pub verdict: Skipped,
+    pub record: DAttachDetachGroupIdentity,
+}
+
+// The listed elements, in order.
+const TABLE: Table = Table {
+    count: 4,
+    rows: [
+        Row {
+            identifier: PROPRIETARY,
+            kind: TYPE3,
+        },
+        Row {
+            identifier: GROUP_REPORT_RESPONSE,
+            kind: TYPE3,
+        },
+        Row {
+            identifier: GROUP_IDENTITY_DOWNLINK,
+            kind: DOWNLINKS,
+        },
+        Row {
+            identifier: GROUP_IDENTITY_SECURITY_RELATED_INFORMATION,
+            kind: TYPE4,
+        },
+        NO_ROW,
+        NO_ROW,
+        NO_ROW,
+        NO_ROW,
+    ],
+};
+
+fn refused(n: u8) -> AttachDetachRead
+    ensures { λ r. ⌜ r ≡ attachDetachAnswer (halted n) ⌝ }
+{
+    AttachDetachRead {
+        verdict: Skipped::Refused(n),
+        record: no_attach_detach(),
+    }
+}
+
+// The listed elements, up to the closing M-bit.
+fn read_elements(
+    c: Cursor,
+    octets: &[u8],
+    head: AttachDetachHead,
+    skipping: bool,
+) -> AttachDetachRead
+    ensures { λ r. ⌜ r ≡ attachDetachAnswer (at (body identifierOf content attachDetachFormat skipping head true) (now (octets .entry)) c) ⌝ }
+{
+    let a = scan(c, octets, TABLE, 0, 2, skipping, NO_GENERICS);
+    let v = a.verdict;
+    let Moved::To(c1) = v else {
+        return refused(v.refusal());
+    };
+    let s = skip_if(c1, octets, TABLE, skipping);
+    let Skipped::Count(n, c2) = s else {
+        return refused(s.refusal());
+    };
+    let d = read_downlinks_slot(c2, octets, GROUP_IDENTITY_DOWNLINK);
+    let w = d.verdict;
+    let Moved::To(c3) = w else {
+        return refused(w.refusal());
+    };
+    let front = a.slots;
+    let before = front.generics;
+    let b = scan(c3, octets, TABLE, 3, 4, skipping, before);
+    let x = b.verdict;
+    let Moved::To(c4) = x else {
+        return refused(x.refusal());
+    };
+    let e = read_table_end(c4, octets, TABLE, skipping);
+    let Skipped::Count(m, c5) = e else {
+        return refused(e.refusal());
+    };
+    let back = b.slots;
+    let generics = back.generics;
+    let list = d.list;
+    AttachDetachRead {
+        verdict: Skipped::Count(front.skipped + n + back.skipped + m, c5),
+        record: record_of(head, list, generics),
+    }
+}
+
+impl DAttachDetachGroupIdentity {
+    // The message: its head, and behind an O-bit of 1 its listed elements.
+    pub fn from_bitbuf(c: Cursor, octets: &[u8], skipping: bool) -> AttachDetachRead
+        ensures { λ r. ⌜ r ≡ attachDetachAnswer (at (message identifierOf content attachDetachFormat skipping) (now (octets .entry)) c) ⌝ }
+    {
+        let h = read_head(c, octets);
+        let AttachDetachHeadRead::Read(head, c1) = h else {
+            return refused(h.refusal());
+        };
+        if head.obit == 1 {
+            return read_elements(c1, octets, head, skipping);
+        }
+        AttachDetachRead {
+            verdict: Skipped::Count(0, c1),
+            record: record_of(head, no_downlinks(), NO_GENERICS),
+        }
     }
 }
