@@ -1,5 +1,5 @@
 -- Readers at a cursor that test, that run where they are wanted, that are held to a length, or that run a number of times.
-use Prim.Native.Nat.{ℕ, zero, suc, _+_, _-_, _≤_, _<_}
+use Prim.Native.Nat.{ℕ, zero, suc, _+_, _-_, _<_}
 use native.Mathlib.Numerals.{add-one}
 use native.Mathlib.Omega.{arith}
 use mathlib.Core.Path.{_≡_, refl, sym, _∙_, ap}
@@ -7,13 +7,13 @@ use mathlib.Core.Bool.{Bool, true, false}
 use mathlib.Core.Option.{Option, none, some}
 use mathlib.Core.List.{List, [], _∷_, _++_, append-assoc, append-nil}
 use lib.ListN.{length, take, drop, set, replicate, take-append-drop}
-use lib.Dec.{eqb}
 use lib.Seq.{take-suc-set, drop-set-lt, drop-drop}
 use borrow.Author.Tests.{eq-eqb, ne-eqb}
 use Rattle.bits.specs.PduParseError.{inconsistentLength}
 use Rattle.bits.specs.Bits.{Bits}
-use Rattle.bits.specs.Reader.{Answer, got, refused, Reader, then, _>>=_, unless, optional, exactly, times, Tail}
-use Rattle.bits.specs.Placed.{window, Placed, placed, halted, place, at}
+use Rattle.bits.specs.Reader.{got, Reader, _>>=_, unless, optional, exactly, times, Tail}
+use Rattle.bits.specs.ReaderLaws.{then-then, then-same}
+use Rattle.bits.specs.Placed.{window, Placed, placed, halted, at}
 use Rattle.bits.specs.PlacedLaws.{Gives, told, told-not, gives, gives-not, step, stop, done, refuse}
 use Rattle.bits.specs.declared.bitbuffer.Cursor.{Cursor}
 
@@ -33,11 +33,7 @@ failed n e = rw e refuse
 -- a reader that runs where it is wanted, with values of another type
 pub optional-through : {A B : Type 0} (f : Option A → B) (b : Bool) (r : Reader A) (bs : Bits)
     → optional (λ a. f (some a)) (f none) b r bs ≡ (optional some none b r >>= λ o. got (f o)) bs
-optional-through f true r bs = go (r bs)
-  where
-    go : (x : Answer _) → then x (λ a. got (f (some a))) ≡ then (then x (λ a. got (some a))) (λ o. got (f o))
-    go (got a rest) = refl
-    go (refused n) = refl
+optional-through f true r bs = sym (then-then (r bs) (λ a. got (some a)) (λ o. got (f o)))
 optional-through f false r bs = refl
 
 -- ## a reader that has to use n bits
@@ -66,16 +62,11 @@ gathered g r m xs = times m r >>= λ ys. got (g (xs ++ ys))
 module _ {A B : Type 0} (g : List A → B) (r : Reader A) where
   gathered-suc : (m : ℕ) (xs : List A) (bs : Bits) → gathered g r (suc m) xs bs ≡ (r >>= λ a. gathered g r m (xs ++ a ∷ [])) bs
   unfolding times
-  gathered-suc m xs bs = go (r bs)
-    where
-      last : (a : A) (y : Answer (List A)) → then (then y (λ ys. got (a ∷ ys))) (λ ys. got (g (xs ++ ys))) ≡ then y (λ ys. got (g ((xs ++ a ∷ []) ++ ys)))
-      last a (refused n) = refl
-      last a (got ys rest) = rw (append-assoc xs (a ∷ []) ys)
-
-      go : (x : Answer A) → then (then x (λ a rest. then (times m r rest) (λ ys. got (a ∷ ys)))) (λ ys. got (g (xs ++ ys)))
-          ≡ then x (λ a. gathered g r m (xs ++ a ∷ []))
-      go (refused n) = refl
-      go (got a rest) = last a (times m r rest)
+  gathered-suc m xs bs =
+      then-then (r bs) _ _
+      ∙ then-same (r bs) (λ a rest.
+      then-then (times m r rest) _ _
+      ∙ then-same (times m r rest) (λ ys end. ap (λ zs. got (g zs) end) (sym (append-assoc xs (a ∷ []) ys))))
 
   pub gathered-none : (os : List ℕ) (c : Cursor) (xs : List A) → at (gathered g r 0 xs) os c ≡ placed (g xs) c
   unfolding times at

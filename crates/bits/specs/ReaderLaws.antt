@@ -4,7 +4,7 @@ use Prim.Native.Nat.{ℕ, zero, suc, _+_, _^_, _≤_, _<_}
 use native.Mathlib.Omega.{arith}
 use mathlib.Core.Path.{_≡_, refl, sym, ap, _∙_}
 use mathlib.Core.Bool.{Bool, true, false, cond}
-use mathlib.Core.List.{[], _∷_, _++_, append-assoc, append-cancel-right}
+use mathlib.Core.List.{List, [], _∷_, _++_, append-assoc, append-cancel-right}
 use lib.ListN.{length, take, drop, length-append, take-append-drop}
 use lib.Dec.{leb, eqb}
 use lib.Seq.{take-at, drop-at, length-take-le}
@@ -17,11 +17,27 @@ use Rattle.bits.specs.Reader.{Answer, got, refused, Reader, then, _>>=_,
 pub refused-got : {A B : Type 0} {n : ℕ} {a : A} {rest : Bits} → refused n ≡ got a rest → B
 refused-got e = let z : _≡_ {A = ℕ} 0 1 = cc in absurd (omega arith)
 
+pub got-refused : {A B : Type 0} {n : ℕ} {a : A} {rest : Bits} → got a rest ≡ refused n → B
+got-refused e = refused-got (sym e)
+
+pub refused-same : {A : Type 0} {m n : ℕ} → _≡_ {A = Answer A} (refused m) (refused n) → m ≡ n
+refused-same e = cc
+
 -- what a value from two readers in turn rests on (what is learnt is bound by a λ, so that it does not unfold)
 pub split-then : {A B P : Type 0} (x : Answer A) (f : A → Reader B) {b : B} {rest : Bits} → then x f ≡ got b rest
     → ((a : A) (mid : Bits) → x ≡ got a mid → f a mid ≡ got b rest → P) → P
 split-then (got a mid) f e k = k a mid refl e
 split-then (refused n) f e k = refused-got e
+
+-- three, one after the other
+pub then-then : {A B C : Type 0} (x : Answer A) (f : A → Reader B) (g : B → Reader C) → then (then x f) g ≡ then x (λ a. f a >>= g)
+then-then (got a rest) f g = refl
+then-then (refused n) f g = refl
+
+-- the next by what it does
+pub then-same : {A B : Type 0} (x : Answer A) {f g : A → Reader B} → ((a : A) (rest : Bits) → f a rest ≡ g a rest) → then x f ≡ then x g
+then-same (got a rest) e = e a rest
+then-same (refused n) e = refl
 
 pub local-tail : {A : Type 0} {r : Reader A} → Local r → Tail r
 local-tail l = record { at = λ bs a rest e. let u = l .at bs a rest e in (u .used, u .split) }
@@ -130,14 +146,23 @@ pub unless-local : (b : Bool) (n : ℕ) → Local (unless b n)
 unless-local true n = got-local tt
 unless-local false n = refused-local n
 
+-- what holds of a value given, and of one reader and then the next, holds of what is made of them
+module _ (P : (A : Type 0) → Reader A → Type 0) (given : (A : Type 0) (x : A) → P A (λ bs. got x bs))
+    (bound : (A B : Type 0) (r : Reader A) (f : A → Reader B) → P A r → ((a : A) → P B (f a)) → P B (r >>= f)) where
+  pub optional-made : {A B : Type 0} (present : A → B) (absent : B) (b : Bool) (r : Reader A) → P A r → P B (optional present absent b r)
+  optional-made present absent true r l = bound _ _ r _ l (λ a. given _ (present a))
+  optional-made present absent false r l = given _ absent
+
+  pub times-made : {A : Type 0} (k : ℕ) (r : Reader A) → P A r → P (List A) (times k r)
+  unfolding times
+  times-made zero r l = given _ []
+  times-made (suc k) r l = bound _ _ r _ l (λ a. bound _ _ (times k r) _ (times-made k r l) (λ xs. given _ (a ∷ xs)))
+
 pub optional-local : {A B : Type 0} (present : A → B) (absent : B) (b : Bool) (r : Reader A) → Local r → Local (optional present absent b r)
-optional-local present absent true r l = bind-local r _ l (λ a. got-local (present a))
-optional-local present absent false r l = got-local absent
+optional-local = optional-made (λ A. Local) (λ A. got-local) (λ A B. bind-local)
 
 pub times-local : {A : Type 0} (k : ℕ) (r : Reader A) → Local r → Local (times k r)
-unfolding times
-times-local zero r l = got-local []
-times-local (suc k) r l = bind-local r _ l (λ a. bind-local (times k r) _ (times-local k r l) (λ xs. got-local (a ∷ xs)))
+times-local = times-made (λ A. Local) (λ A. got-local) (λ A B. bind-local)
 
 pub record ExactlyGot {A : Type 0} (n : ℕ) (r : Reader A) (bs : Bits) (a : A) (rest : Bits) : Type 0 where
   pub inner : r bs ≡ got a rest

@@ -1,16 +1,14 @@
 -- What the code's answers say: the value and the place, or the refusal's number; and readers whose values are the declared types.
 use Prim.Native.Nat.{ℕ}
-use mathlib.Core.Bool.{Bool, false}
+use mathlib.Core.Bool.{Bool}
 use mathlib.Core.Option.{Option, none, some}
 use mathlib.Core.List.{List}
-use lib.ListN.{replicate}
-use lib.Seq.{sets}
-use lib.Dec.{eqb}
-use Rattle.bits.specs.Reader.{Reader, _>>=_, field, optional}
+use Rattle.bits.specs.Reader.{Reader, field, optional}
 use Rattle.bits.specs.Placed.{Placed, placed, halted}
 use Rattle.bits.specs.declared.bitbuffer.Moved.the-variants as M
-use Rattle.elements.specs.Numbers.{isPresent, valueOr, u8Of, u64Of, flagWidth}
+use Rattle.elements.specs.Numbers.{isPresent, valueOr, u8Of, u64Of, type2As}
 use Rattle.elements.specs.Table.{Counted, identifierWidth}
+use Rattle.elements.specs.Rows.{noGeneric, noGenerics, slotsIn}
 use Rattle.elements.specs.declared.typed_pdu_fields.OptionalU8.{OptionalU8}
 use Rattle.elements.specs.declared.typed_pdu_fields.OptionalU32.{OptionalU32}
 use Rattle.elements.specs.declared.typed_pdu_fields.OptionalU64.{OptionalU64}
@@ -24,6 +22,7 @@ use Rattle.elements.specs.declared.typed_pdu_fields.Generic.{Generic}
 use Rattle.elements.specs.declared.typed_pdu_fields.GenericRead.{GenericRead}
 use Rattle.elements.specs.declared.typed_pdu_fields.Skipped.{Skipped}
 use Rattle.elements.specs.declared.typed_pdu_fields.Skipped.the-variants as S
+use Rattle.elements.specs.declared.typed_pdu_fields.Slots.{Slots}
 use Rattle.elements.specs.declared.typed_pdu_fields.ScanRead.{ScanRead}
 
 -- ## optional numbers
@@ -40,15 +39,9 @@ optionalU32 = optional (λ v. u32Of (some v)) (u32Of none)
 abbrev pub optionalU64 : Bool → Reader ℕ → Reader OptionalU64
 optionalU64 = optional (λ v. u64Of (some v)) (u64Of none)
 
-abbrev pub type2U8 : Reader ℕ → Reader OptionalU8
-type2U8 r = field flagWidth >>= λ p. optionalU8 (eqb p 1) r
-
-abbrev pub type2U64 : Reader ℕ → Reader OptionalU64
-type2U64 r = field flagWidth >>= λ p. optionalU64 (eqb p 1) r
-
 -- M-bit, and behind an M-bit of 1 the identifier
 abbrev pub opening : Reader OptionalU8
-opening = type2U8 (field identifierWidth)
+opening = type2As u8Of (field identifierWidth)
 
 abbrev pub asOptionalU8 : OptionalU8Read → Placed OptionalU8
 asOptionalU8 (O8.Read v c) = placed v c
@@ -68,14 +61,15 @@ abbrev pub asSkipped : Skipped → Placed ℕ
 asSkipped (S.Count n c) = placed n c
 asSkipped (S.Refused n) = halted n
 
-abbrev pub noGeneric : Generic
-noGeneric = record { present = false; len = 0; elems = 0; «data» = 0 }
-
 abbrev pub genericAnswer : Placed Generic → GenericRead
 genericAnswer (placed g c) = record { verdict = M.To c; element = g }
 genericAnswer (halted n) = record { verdict = M.Refused n; element = noGeneric }
 
+abbrev pub slotsAnswer : Placed Slots → ScanRead
+slotsAnswer (placed s c) = record { verdict = M.To c; slots = s }
+slotsAnswer (halted n) = record { verdict = M.Refused n; slots = record { skipped = 0; generics = noGenerics } }
+
 -- the values are put into the array from a place on
 abbrev pub scanAnswer : List Generic → ℕ → Placed (Counted (List Generic)) → ScanRead
-scanAnswer before from (placed x c) = record { verdict = M.To c; slots = record { skipped = x .skipped; generics = sets before from (x .value) } }
-scanAnswer before from (halted n) = record { verdict = M.Refused n; slots = record { skipped = 0; generics = replicate 8 noGeneric } }
+scanAnswer before from (placed x c) = slotsAnswer (placed (slotsIn before from x) c)
+scanAnswer before from (halted n) = slotsAnswer (halted n)

@@ -1,6 +1,5 @@
 -- Class of MS (EN 300 392-2, clause 16.10.5): 24 bits, top bit first, the 22 fields in order.
 use Prim.Native.Nat.{ℕ, _+_}
-use mathlib.Core.Path.{_≡_}
 use mathlib.Core.Bool.{Bool, true, _&&_}
 use mathlib.Core.Option.{Option}
 use mathlib.Core.List.{List, [], _∷_, _++_}

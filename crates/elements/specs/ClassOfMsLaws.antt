@@ -13,8 +13,8 @@ use lib.Seq.{length-take-le, take-add, drop-drop}
 use Rattle.bits.specs.PduParseError.{bufferEnded}
 use Rattle.bits.specs.Bits.{Bits, number, digits}
 use Rattle.bits.specs.BitsLaws.{number-lt, number-append}
-use Rattle.bits.specs.Reader.{Answer, got, refused, then, _>>=_, field, Local}
-use Rattle.bits.specs.ReaderLaws.{local·rules, local-tail, got-local, bind-local, field-local, field-enough, field-short, Passes, field-passes, got-passes, bind-passes}
+use Rattle.bits.specs.Reader.{got, refused, _>>=_, field, Local}
+use Rattle.bits.specs.ReaderLaws.{then-then, local·rules, local-tail, got-local, bind-local, field-local, field-enough, field-short, Passes, field-passes, got-passes, bind-passes}
 use Rattle.bits.specs.Placed.{window, placed, halted}
 use Rattle.bits.specs.PlacedLaws.{Gives, step, stop, done}
 use Rattle.bits.specs.PlacedTimes.{alike}
@@ -122,11 +122,7 @@ numbers-word ws bs = go (leb (sum ws) (length bs)) refl
 
 class-word : (bs : Bits) → classOfMs bs ≡ (field 24 >>= λ v. got (classOf (split classWidths v))) bs
 unfolding classOfMs sum
-class-word bs = rw (numbers-word classWidths bs) (go (field 24 bs))
-  where
-    go : (x : Answer ℕ) → then (then x (λ v. got (split classWidths v))) (λ vs. got (classOf vs)) ≡ then x (λ v. got (classOf (split classWidths v)))
-    go (got v rest) = refl
-    go (refused n) = refl
+class-word bs = rw (numbers-word classWidths bs) (then-then (field 24 bs) _ _)
 
 module _ {os : List ℕ} {c : Cursor} where
   pub class-there : {v : ℕ} {k : Cursor} → Gives (field 24) os c (placed v k) → Gives classOfMs os c (placed (classOf (split classWidths v)) k)

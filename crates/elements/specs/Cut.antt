@@ -263,6 +263,6 @@ module _ {S A : Type 0} (identifier : S → ℕ) (content : S → ℕ → Reader
         split-then (slot identifier content s r₁) _ q₁ (λ a r₂ p₂ q₂.
         split-then (scan identifier content listed b ss r₂) _ q₂ (λ y r₃ p₃ q₃.
         let g : counted (n + y .skipped) (a ∷ y .value) ≡ x = cc in
-        let here : listed (identifier s) ≡ true = t (identifier s) (listed-first identifier content s ss) in
-        let later : Listed ss = λ i h. t i (listed-later identifier content s ss i h) in
+        let here : listed (identifier s) ≡ true = t (identifier s) (listed-first identifier s ss) in
+        let later : Listed ss = λ i h. t i (listed-later identifier s ss i h) in
         rw (← g) (skip-walks b bs p₁ (slot-walks s here r₁ p₂ (scan-walks b ss later r₂ p₃))))))

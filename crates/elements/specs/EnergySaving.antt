@@ -2,14 +2,13 @@
 -- passed, and written 0.
 use Prim.Native.Nat.{ℕ}
 use mathlib.Core.Path.{_≡_}
-use mathlib.Core.Bool.{Bool, true, false, cond, not, _&&_, _||_}
-use mathlib.Core.Option.{Option, none, some}
-use mathlib.Core.List.{List, _++_}
+use mathlib.Core.Bool.{Bool, not, _&&_, _||_}
+use mathlib.Core.Option.{Option, none}
+use mathlib.Core.List.{_++_}
 use lib.Dec.{eqb}
 use Rattle.bits.specs.Bits.{Bits, digits}
 use Rattle.bits.specs.Reader.{Reader, got, _>>=_, field}
-use Rattle.elements.specs.Numbers.{isPresent, valueOr, held, optionAll, inWidth, u8Of, inU8, Same, SameU8}
-use Rattle.elements.specs.declared.typed_pdu_fields.OptionalU8.{OptionalU8}
+use Rattle.elements.specs.Numbers.{isPresent, valueOr, held, optionAll, inWidth, u8Of, inU8, SameU8}
 use Rattle.elements.specs.declared.energy_saving_information.EnergySavingInformation.{EnergySavingInformation}
 use Rattle.elements.specs.declared.energy_saving_information.OptionalEnergySavingInformation.{OptionalEnergySavingInformation}
 

@@ -1,7 +1,7 @@
 -- Type 3 and type 4 elements that are kept as they come: the declared length, and the first bits as a number.
 use Prim.Native.Nat.{ℕ, _+_, _-_, min}
 use mathlib.Core.Bool.{Bool, _&&_}
-use mathlib.Core.List.{List, _++_}
+use mathlib.Core.List.{_++_}
 use lib.Dec.{leb}
 use Rattle.bits.specs.PduParseError.{type4Underflow}
 use Rattle.bits.specs.Bits.{Bits, digits}

@@ -1,17 +1,13 @@
 -- What the code's answers say of groups, lists, structures and small elements.
 use Prim.Native.Nat.{ℕ}
-use mathlib.Core.Bool.{Bool, true, false}
+use mathlib.Core.Bool.{Bool}
 use mathlib.Core.Option.{Option, none, some}
-use mathlib.Core.List.{List}
-use lib.Dec.{eqb}
-use Rattle.bits.specs.Reader.{Reader, got, _>>=_, field, optional, times}
+use Rattle.bits.specs.Reader.{Reader, got, _>>=_, optional}
 use Rattle.bits.specs.Placed.{Placed, placed, halted}
 use Rattle.bits.specs.declared.bitbuffer.Moved.the-variants as M
-use Rattle.elements.specs.Numbers.{isPresent, valueOr, flagWidth}
+use Rattle.elements.specs.Numbers.{isPresent, valueOr}
 use Rattle.elements.specs.Table.{slot}
 use Rattle.elements.specs.Groups.{Address, noAttachment}
-use Rattle.elements.specs.ClassOfMs.{classOption, classOfMs}
-use Rattle.elements.specs.EnergySaving.{savingOption, energySaving}
 use Rattle.elements.specs.Lists.{Groups, list, listOf, uplinks, downlinks}
 use Rattle.elements.specs.Locations.{noLocationDemand, noLocationAccept}
 use Rattle.elements.specs.Kinds.{row, ofLocationDemand, ofLocationAccept, ofDownlinks, heldElement, identifierOf, content, absentLocationDemand, absentLocationAccept}
@@ -40,7 +36,6 @@ use Rattle.elements.specs.declared.group_identity_location_accept.GroupI
 use Rattle.elements.specs.declared.group_identity_location_accept.OptionalLocationAccept.{OptionalLocationAccept}
 use Rattle.elements.specs.declared.group_identity_location_accept.LocationAcceptRead.{LocationAcceptRead}
 use Rattle.elements.specs.declared.group_identity_location_accept.LocationAcceptSlot.{LocationAcceptSlot}
-use Rattle.elements.specs.declared.class_of_ms.ClassOfMs.{ClassOfMs}
 use Rattle.elements.specs.declared.class_of_ms.OptionalClassOfMs.{OptionalClassOfMs}
 use Rattle.elements.specs.declared.class_of_ms.ClassRead.{ClassRead}
 use Rattle.elements.specs.declared.class_of_ms.ClassRead.the-variants as C
@@ -91,10 +86,6 @@ abbrev pub asDownlink : DownlinkRead → Placed GroupIdentityDownlink
 asDownlink (D.Read v c) = placed v c
 asDownlink (D.Refused n) = halted n
 
--- a number of groups, as a list
-abbrev pub groupsRead : {G L : Type 0} → Groups G L → ℕ → Reader L
-groupsRead k n = times n (k .group) >>= λ gs. got (listOf k (some gs))
-
 abbrev pub uplinksAnswer : Placed OptionalUplinks → UplinksRead
 uplinksAnswer (placed l c) = record { verdict = M.To c; list = l }
 uplinksAnswer (halted n) = record { verdict = M.Refused n; list = listOf uplinks none }
@@ -137,9 +128,6 @@ locationAcceptSlotAnswer (halted n) = record { verdict = M.Refused n; location =
 
 -- ## small elements
 
-abbrev pub type2Class : Reader OptionalClassOfMs
-type2Class = field flagWidth >>= λ p. optional (λ v. classOption (some v)) (classOption none) (eqb p 1) classOfMs
-
 abbrev pub asClass : ClassRead → Placed OptionalClassOfMs
 asClass (C.Read v c) = placed v c
 asClass (C.Refused n) = halted n
@@ -147,9 +135,6 @@ asClass (C.Refused n) = halted n
 abbrev pub asSaving : SavingRead → Placed EnergySavingInformation
 asSaving (E.Read v c) = placed v c
 asSaving (E.Refused n) = halted n
-
-abbrev pub type2Saving : Reader OptionalEnergySavingInformation
-type2Saving = field flagWidth >>= λ p. optional (λ v. savingOption (some v)) (savingOption none) (eqb p 1) energySaving
 
 abbrev pub asOptionalSaving : OptionalSavingRead → Placed OptionalEnergySavingInformation
 asOptionalSaving (OE.Read v c) = placed v c

@@ -1,5 +1,5 @@
 -- Groups (EN 300 392-2, clauses 16.10.19, 16.10.22 and 16.10.27): how they are read and written, and what is asked of them.
-use Prim.Native.Nat.{ℕ, zero, suc, _+_}
+use Prim.Native.Nat.{ℕ, _+_}
 use mathlib.Core.Path.{_≡_}
 use mathlib.Core.Bool.{Bool, true, false, cond, not, _&&_, _||_, Bool·beq}
 use mathlib.Core.Option.{Option, none, some}
@@ -79,12 +79,15 @@ addressBits forms a =
 unfoldable pub addressFits : Address → Bool
 addressFits a = optionAll (inWidth addressWidth) (a .gssi) && (optionAll (inWidth addressWidth) (a .extension) && optionAll (inWidth addressWidth) (a .vgssi))
 
--- each direction's address: its type, then the parts that this type has
+-- an address: its type, then the parts that this type has
+abbrev pub typedAddress : List Form → Reader Address
+typedAddress forms = field addressTypeWidth >>= λ t. addressOf (formAt forms t)
+
 unfoldable pub uplinkAddress : Reader Address
-uplinkAddress = field addressTypeWidth >>= λ t. addressOf (formAt uplinkForms t)
+uplinkAddress = typedAddress uplinkForms
 
 unfoldable pub downlinkAddress : Reader Address
-downlinkAddress = field addressTypeWidth >>= λ t. addressOf (formAt downlinkForms t)
+downlinkAddress = typedAddress downlinkForms
 
 -- ## attachment and detachment
 
@@ -110,6 +113,21 @@ kindOf attached = cond attached attachment detachment
 abbrev pub differ : Bool → Bool → Bool
 differ a b = not (Bool·beq a b)
 
+-- ## a group of either direction, by what an attachment says and by its address
+
+abbrev pub groupWith : {T G : Type 0} → Reader T → Reader Address → (Option T → Option ℕ → Address → G) → Reader G
+groupWith info address of =
+    field flagWidth >>= λ k. optional some none (eqb k attachment) info >>= λ t. optionalNumber (eqb k detachment) detachmentWidth >>= λ d.
+    address >>= λ a. got (of t d a)
+
+abbrev pub groupBits : {T : Type 0} → (T → Bits) → List Form → Option T → Option ℕ → Address → Bits
+groupBits bits forms t d a =
+    digits flagWidth (kindOf (isPresent t)) ++ (optionBits bits t ++ (optionBits (digits detachmentWidth) d ++ addressBits forms a))
+
+-- QUESTION 8
+abbrev pub groupFits : {T : Type 0} → (T → Bool) → Option T → Option ℕ → Address → Bool
+groupFits fits t d a = optionAll fits t && (optionAll (inWidth detachmentWidth) d && addressFits a)
+
 -- ## the uplink group
 
 abbrev pub uplinkOf : Option ℕ → Option ℕ → Address → GroupIdentityUplink
@@ -127,9 +145,7 @@ uplinkOf c d a = record {
 }
 
 unfoldable pub uplink : Reader GroupIdentityUplink
-uplink =
-    field flagWidth >>= λ k. optionalNumber (eqb k attachment) classOfUsageWidth >>= λ c. optionalNumber (eqb k detachment) detachmentWidth >>= λ d.
-    uplinkAddress >>= λ a. got (uplinkOf c d a)
+uplink = groupWith (field classOfUsageWidth) uplinkAddress uplinkOf
 
 -- what is present in it
 abbrev pub uplinkClass : GroupIdentityUplink → Option ℕ
@@ -146,16 +162,11 @@ uplinkAddressIn g = record {
 }
 
 unfoldable pub uplinkBits : GroupIdentityUplink → Bits
-uplinkBits g =
-    digits flagWidth (kindOf (isPresent (uplinkClass g)))
-    ++ (optionBits (digits classOfUsageWidth) (uplinkClass g)
-    ++ (optionBits (digits detachmentWidth) (uplinkDetachment g) ++ addressBits uplinkForms (uplinkAddressIn g)))
+uplinkBits g = groupBits (digits classOfUsageWidth) uplinkForms (uplinkClass g) (uplinkDetachment g) (uplinkAddressIn g)
 
 -- QUESTIONS 8, 10 and 11
 unfoldable pub uplinkFits : GroupIdentityUplink → Bool
-uplinkFits g =
-    optionAll (inWidth classOfUsageWidth) (uplinkClass g)
-    && (optionAll (inWidth detachmentWidth) (uplinkDetachment g) && addressFits (uplinkAddressIn g))
+uplinkFits g = groupFits (inWidth classOfUsageWidth) (uplinkClass g) (uplinkDetachment g) (uplinkAddressIn g)
 
 unfoldable pub uplinkOne : GroupIdentityUplink → Bool
 uplinkOne g = differ (isPresent (uplinkClass g)) (isPresent (uplinkDetachment g))
@@ -199,9 +210,7 @@ downlinkOf t d a = record {
 }
 
 unfoldable pub downlink : Reader GroupIdentityDownlink
-downlink =
-    field flagWidth >>= λ k. optional some none (eqb k attachment) attachmentInfo >>= λ t. optionalNumber (eqb k detachment) detachmentWidth >>= λ d.
-    downlinkAddress >>= λ a. got (downlinkOf t d a)
+downlink = groupWith attachmentInfo downlinkAddress downlinkOf
 
 abbrev pub downlinkAttachment : GroupIdentityDownlink → Option GroupIdentityAttachment
 downlinkAttachment g = held (g .«group_identity_attachment_present») (g .«group_identity_attachment»)
@@ -223,16 +232,11 @@ unfoldable pub attachmentFits : GroupIdentityAttachment → Bool
 attachmentFits t = inWidth lifetimeWidth (t .«group_identity_attachment_lifetime») && inWidth classOfUsageWidth (t .«class_of_usage»)
 
 unfoldable pub downlinkBits : GroupIdentityDownlink → Bits
-downlinkBits g =
-    digits flagWidth (kindOf (isPresent (downlinkAttachment g)))
-    ++ (optionBits attachmentBits (downlinkAttachment g)
-    ++ (optionBits (digits detachmentWidth) (downlinkDetachment g) ++ addressBits downlinkForms (downlinkAddressIn g)))
+downlinkBits g = groupBits attachmentBits downlinkForms (downlinkAttachment g) (downlinkDetachment g) (downlinkAddressIn g)
 
 -- QUESTIONS 8, 10 and 11
 unfoldable pub downlinkFits : GroupIdentityDownlink → Bool
-downlinkFits g =
-    optionAll attachmentFits (downlinkAttachment g)
-    && (optionAll (inWidth detachmentWidth) (downlinkDetachment g) && addressFits (downlinkAddressIn g))
+downlinkFits g = groupFits attachmentFits (downlinkAttachment g) (downlinkDetachment g) (downlinkAddressIn g)
 
 unfoldable pub downlinkOne : GroupIdentityDownlink → Bool
 downlinkOne g = differ (isPresent (downlinkAttachment g)) (isPresent (downlinkDetachment g))

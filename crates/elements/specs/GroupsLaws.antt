@@ -3,17 +3,17 @@ use Prim.Native.Nat.{ℕ, suc, _+_, _^_, _≤_, _<_}
 use native.Mathlib.Numerals.{one-add}
 use native.Mathlib.Omega.{arith}
 use mathlib.Core.Path.{_≡_, refl}
-use mathlib.Core.Bool.{Bool, true, false, cond, _&&_, _||_, Bool·beq}
+use mathlib.Core.Bool.{Bool, true, false, cond, _||_, Bool·beq}
 use mathlib.Core.Option.{Option, none, some}
 use mathlib.Core.List.{List, [], _∷_, _++_, append-assoc}
 use lib.ListN.{length}
 use lib.Dec.{eqb, lit<, lit≤}
 use Rattle.bits.specs.Bits.{Bits, digits}
-use Rattle.bits.specs.Reader.{Reader, got, _>>=_, field, optional, Local}
+use Rattle.bits.specs.Reader.{Reader, got, field, optional, Local}
 use Rattle.bits.specs.ReaderLaws.{local·rules, field-back, split-then}
-use Rattle.elements.specs.Numbers.{isPresent, valueOr, held, optionalNumber, optionBits, optionAll, inWidth, flagWidth}
+use Rattle.elements.specs.Numbers.{isPresent, valueOr, held, optionalNumber, optionAll, inWidth, flagWidth}
 use Rattle.elements.specs.NumbersLaws.{never, both, optional-same-back, number-back, optionalNumber-back, held-option, same-held, same-self}
-use Rattle.elements.specs.Groups.{addressTypeWidth, addressWidth, Form, uplinkForms, downlinkForms, formAt, sameForm, typeOf, listedForm, Address, addressOf, formOf, addressBits, addressFits, uplinkAddress, downlinkAddress, detachmentWidth, classOfUsageWidth, attachment, detachment, kindOf, differ, uplinkOf, uplink, uplinkClass, uplinkDetachment, uplinkAddressIn, uplinkBits, uplinkFits, uplinkOne, uplinkListed, uplinkNormal, SameUplink, lifetimeWidth, attachmentInfo, noAttachment, downlinkOf, downlink, downlinkAttachment, downlinkDetachment, downlinkAddressIn, attachmentBits, attachmentFits, downlinkBits, downlinkFits, downlinkOne, downlinkListed, downlinkNormal, SameDownlink}
+use Rattle.elements.specs.Groups.{addressTypeWidth, addressWidth, Form, uplinkForms, downlinkForms, formAt, sameForm, typeOf, listedForm, Address, addressOf, formOf, addressBits, addressFits, typedAddress, uplinkAddress, downlinkAddress, detachmentWidth, classOfUsageWidth, attachment, detachment, kindOf, differ, groupWith, groupBits, groupFits, uplinkOf, uplink, uplinkClass, uplinkDetachment, uplinkAddressIn, uplinkBits, uplinkFits, uplinkOne, uplinkListed, uplinkNormal, SameUplink, lifetimeWidth, attachmentInfo, noAttachment, downlinkOf, downlink, downlinkAttachment, downlinkDetachment, downlinkAddressIn, attachmentBits, attachmentFits, downlinkBits, downlinkFits, downlinkOne, downlinkListed, downlinkNormal, SameDownlink}
 use Rattle.elements.specs.declared.group_identity_attachment.GroupIdentityAttachment.{GroupIdentityAttachment}
 use Rattle.elements.specs.declared.group_identity_uplink.GroupIdentityUplink.{GroupIdentityUplink}
 use Rattle.elements.specs.declared.group_identity_downlink.GroupIdentityDownlink.{GroupIdentityDownlink}
@@ -81,7 +81,7 @@ type-lt (f ∷ fs) h e = go (sameForm f h) e (type-lt fs h)
 
 -- an address of a listed form is read back
 pub address-back : (forms : List Form) → length forms ≤ 4 → (a : Address) → listedForm forms (formOf a) ≡ true → addressFits a ≡ true → (rest : Bits)
-    → (field addressTypeWidth >>= λ t. addressOf (formAt forms t)) (addressBits forms a ++ rest) ≡ got a rest
+    → typedAddress forms (addressBits forms a ++ rest) ≡ got a rest
 unfolding addressOf addressBits addressFits
 address-back forms few a listed fits rest =
     let t : ℕ = typeOf forms (formOf a) in
@@ -112,17 +112,10 @@ kind-lt false = lit< tt
 
 -- a group of either direction, by what an attachment says and by the forms of its addresses
 module _ {T G : Type 0} (info : Reader T) (forms : List Form) (groupOf : Option T → Option ℕ → Address → G) where
-  abbrev group : Reader G
-  group =
-      field flagWidth >>= λ k. optional some none (eqb k attachment) info >>= λ t. optionalNumber (eqb k detachment) detachmentWidth >>= λ d.
-      (field addressTypeWidth >>= λ i. addressOf (formAt forms i)) >>= λ a. got (groupOf t d a)
-
   group-back : (bits : T → Bits) (fits : T → Bool) → ((t : T) → fits t ≡ true → (rest : Bits) → info (bits t ++ rest) ≡ got t rest)
       → length forms ≤ 4 → (t : Option T) (d : Option ℕ) (a : Address)
-      → (optionAll fits t && (optionAll (inWidth detachmentWidth) d && addressFits a)) ≡ true → differ (isPresent t) (isPresent d) ≡ true
-      → listedForm forms (formOf a) ≡ true → (rest : Bits)
-      → group ((digits flagWidth (kindOf (isPresent t)) ++ (optionBits bits t ++ (optionBits (digits detachmentWidth) d ++ addressBits forms a))) ++ rest)
-      ≡ got (groupOf t d a) rest
+      → groupFits fits t d a ≡ true → differ (isPresent t) (isPresent d) ≡ true → listedForm forms (formOf a) ≡ true → (rest : Bits)
+      → groupWith info (typedAddress forms) groupOf (groupBits bits forms t d a ++ rest) ≡ got (groupOf t d a) rest
   group-back bits fits back few t d a f one listed rest =
       let x = both (optionAll fits t) _ f in
       let y = both (optionAll (inWidth detachmentWidth) d) _ (x .1) in
@@ -134,12 +127,12 @@ module _ {T G : Type 0} (info : Reader T) (forms : List Form) (groupOf : Option 
 
   -- what is read is its own normal form if each group that is made of parts is
   group-own : (normal : G → G) → ((t : Option T) (d : Option ℕ) (a : Address) → normal (groupOf t d a) ≡ groupOf t d a)
-      → (bs : Bits) {g : G} {rest : Bits} → group bs ≡ got g rest → normal g ≡ g
+      → (bs : Bits) {g : G} {rest : Bits} → groupWith info (typedAddress forms) groupOf bs ≡ got g rest → normal g ≡ g
   group-own normal own bs {g} e =
       split-then (field flagWidth bs) _ e (λ k b₁ p₁ q₁.
       split-then (optional some none (eqb k attachment) info b₁) _ q₁ (λ t b₂ p₂ q₂.
       split-then (optionalNumber (eqb k detachment) detachmentWidth b₂) _ q₂ (λ d b₃ p₃ q₃.
-      split-then ((field addressTypeWidth >>= λ i. addressOf (formAt forms i)) b₃) _ q₃ (λ a b₄ p₄ q₄.
+      split-then (typedAddress forms b₃) _ q₃ (λ a b₄ p₄ q₄.
       let made : groupOf t d a ≡ g = cc in rw (← made) (own t d a)))))
 
 -- an address that is held in presences and values

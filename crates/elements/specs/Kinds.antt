@@ -2,13 +2,12 @@
 use Prim.Native.Nat.{ℕ}
 use mathlib.Core.Path.{_≡_}
 use mathlib.Core.Bool.{true, false}
-use mathlib.Core.Option.{Option, none, some}
-use mathlib.Core.List.{List, []}
+use mathlib.Core.Option.{Option, none}
 use Rattle.bits.specs.Bits.{Bits}
-use Rattle.bits.specs.Reader.{Reader, got, then, _>>=_}
+use Rattle.bits.specs.Reader.{Reader, got, _>>=_}
 use Rattle.elements.specs.Numbers.{held, isPresent, valueOr, optionMap, Same}
 use Rattle.elements.specs.Generics.{type3, type4, noType3, noType4, type3Bits, type4Bits}
-use Rattle.elements.specs.Lists.{Groups, list, listOf, listBits, listNormal, downlinks}
+use Rattle.elements.specs.Lists.{list, listOf, listBits, listNormal, downlinks}
 use Rattle.elements.specs.Locations.{locationDemand, locationDemandBits, locationDemandNormal, noLocationDemand, locationAccept, locationAcceptBits, locationAcceptNormal, noLocationAccept}
 use Rattle.elements.specs.declared.typed_pdu_fields.Type3FieldGeneric.{Type3FieldGeneric}
 use Rattle.elements.specs.declared.typed_pdu_fields.Type4FieldGeneric.{Type4FieldGeneric}

@@ -21,7 +21,7 @@ use Rattle.elements.specs.Lists.{entriesMost, Groups, list, listHeld, li
 use Rattle.elements.specs.ListsLaws.{downlinks-sound, list-local, list-passes, list-back, list-own}
 use Rattle.elements.specs.Locations.{locationDemand, locationDemandBits, locationDemandFits, locationAccept, locationAcceptBits, locationAcceptFits}
 use Rattle.elements.specs.LocationsLaws.{ListOk, location-demand-local, location-demand-passes, location-demand-fits, location-demand-back, location-demand-own, location-accept-local, location-accept-passes, location-accept-fits, location-accept-back, location-accept-own}
-use Rattle.elements.specs.Kinds.{Kind, genericType3, genericType4, ofLocationDemand, ofLocationAccept, ofDownlinks, Slot, row, Element, isType3, isType4, isLocationDemand, isLocationAccept, isDownlinks, contentOf, contentBitsOf, normalOf, identifierOf, content, contentBits, elementNormal, type3Held, type3Slot, type4Held, type4Slot}
+use Rattle.elements.specs.Kinds.{Kind, genericType3, genericType4, ofLocationDemand, ofLocationAccept, ofDownlinks, Slot, row, Element, isType3, isType4, isLocationDemand, isLocationAccept, isDownlinks, contentOf, contentBitsOf, normalOf, content, contentBits, elementNormal, type3Held, type3Slot, type4Held, type4Slot}
 use Rattle.elements.specs.declared.typed_pdu_fields.Type3FieldGeneric.{Type3FieldGeneric}
 use Rattle.elements.specs.declared.typed_pdu_fields.Type4FieldGeneric.{Type4FieldGeneric}
 use Rattle.elements.specs.declared.typed_pdu_fields.OptionalType3.{OptionalType3}
@@ -75,8 +75,8 @@ content-own s n bs {e} {rest} = go (s .kind)
 
 -- what may be absent, where the test is enough for reading back
 option-slot-back : {A : Type 0} (s : Slot) (is : A → Element) (test : A → Bool)
-    → ((a : A) → test a ≡ true → Back identifierOf content contentBits elementNormal s (is a))
-    → (o : Option A) → optionAll test o ≡ true → SlotBack identifierOf content contentBits elementNormal s (optionMap is o)
+    → ((a : A) → test a ≡ true → Back content contentBits elementNormal s (is a))
+    → (o : Option A) → optionAll test o ≡ true → SlotBack content contentBits elementNormal s (optionMap is o)
 option-slot-back s is test back none h = tt
 option-slot-back s is test back (some a) h = back a h
 
@@ -87,7 +87,7 @@ type3-short g f =
     omega (arith, length-digits (g .len) (g .«data»))
 
 pub type3-slot-back : (i : ℕ) (o : OptionalType3) → optionAll type3Fits (type3Held o) ≡ true
-    → SlotBack identifierOf content contentBits elementNormal (row i genericType3) (type3Slot o)
+    → SlotBack content contentBits elementNormal (row i genericType3) (type3Slot o)
 unfolding contentOf contentBitsOf normalOf
 type3-slot-back i o =
     option-slot-back (row i genericType3) isType3 type3Fits (λ g f. record { short = type3-short g f; reads = λ rest. rw (type3-back g f rest) }) (type3Held o)
@@ -99,7 +99,7 @@ type4-short g f =
     omega (arith, length-append (digits entriesWidth (g .elems)) (digits (g .len) (g .«data»)), length-digits entriesWidth (g .elems), length-digits (g .len) (g .«data»))
 
 pub type4-slot-back : (i : ℕ) (o : OptionalType4) → optionAll type4Fits (type4Held o) ≡ true
-    → SlotBack identifierOf content contentBits elementNormal (row i genericType4) (type4Slot o)
+    → SlotBack content contentBits elementNormal (row i genericType4) (type4Slot o)
 unfolding contentOf contentBitsOf normalOf
 type4-slot-back i o =
     option-slot-back (row i genericType4) isType4 type4Fits (λ g f. record { short = type4-short g f; reads = λ rest. rw (type4-back g f rest) }) (type4Held o)
@@ -111,13 +111,13 @@ lengthsFit k xs l = inWidth lengthWidth (length xs) && inWidth lengthWidth (leng
 -- a structure that may be absent and has a list inside, where the answers to the questions are enough for reading back
 module _ {G L D : Type 0} (k : Groups G L) (inner : D → L) (fits : D → Bool) (bits : D → Bits) (s : Slot) (is : D → Element)
     (inner-fits : (d : D) → fits d ≡ true → listFits k (inner d) ≡ true)
-    (back : (d : D) → fits d ≡ true → ListOk k (inner d) → length (bits d) < 2 ^ lengthWidth → Back identifierOf content contentBits elementNormal s (is d)) where
+    (back : (d : D) → fits d ≡ true → ListOk k (inner d) → length (bits d) < 2 ^ lengthWidth → Back content contentBits elementNormal s (is d)) where
   location-slot-back : (p : Bool) (d : D) → length (k .groups (inner d)) ≡ entriesMost
       → optionAll fits (held p d) ≡ true
       → optionAll (λ d. listOne k (inner d)) (held p d) ≡ true
       → optionAll (λ d. listListed k (inner d)) (held p d) ≡ true
       → optionAll (λ d. lengthsFit k (bits d) (inner d)) (held p d) ≡ true
-      → SlotBack identifierOf content contentBits elementNormal s (optionMap is (held p d))
+      → SlotBack content contentBits elementNormal s (optionMap is (held p d))
   location-slot-back true d full f o l h =
       let x = both (inWidth lengthWidth (length (bits d))) _ h in
       back d f (record { array = full; fits = inner-fits d f; one = o; listed = l; short = ltb-true _ _ (x .1) }) (ltb-true _ _ (x .0))
@@ -128,7 +128,7 @@ pub location-demand-slot-back : (i : ℕ) (o : OptionalLocationDemand) → lengt
     → optionAll (λ d. listOne uplinks (d .«group_identity_uplink»)) (held (o .present) (o .value)) ≡ true
     → optionAll (λ d. listListed uplinks (d .«group_identity_uplink»)) (held (o .present) (o .value)) ≡ true
     → optionAll (λ d. lengthsFit uplinks (locationDemandBits d) (d .«group_identity_uplink»)) (held (o .present) (o .value)) ≡ true
-    → SlotBack identifierOf content contentBits elementNormal (row i ofLocationDemand) (optionMap isLocationDemand (held (o .present) (o .value)))
+    → SlotBack content contentBits elementNormal (row i ofLocationDemand) (optionMap isLocationDemand (held (o .present) (o .value)))
 unfolding contentOf contentBitsOf normalOf
 location-demand-slot-back i o =
     location-slot-back uplinks (λ d. d .«group_identity_uplink») locationDemandFits locationDemandBits (row i ofLocationDemand) isLocationDemand
@@ -139,18 +139,18 @@ pub location-accept-slot-back : (i : ℕ) (o : OptionalLocationAccept) → lengt
     → optionAll (λ d. listOne downlinks (d .«group_identity_downlink»)) (held (o .present) (o .value)) ≡ true
     → optionAll (λ d. listListed downlinks (d .«group_identity_downlink»)) (held (o .present) (o .value)) ≡ true
     → optionAll (λ d. lengthsFit downlinks (locationAcceptBits d) (d .«group_identity_downlink»)) (held (o .present) (o .value)) ≡ true
-    → SlotBack identifierOf content contentBits elementNormal (row i ofLocationAccept) (optionMap isLocationAccept (held (o .present) (o .value)))
+    → SlotBack content contentBits elementNormal (row i ofLocationAccept) (optionMap isLocationAccept (held (o .present) (o .value)))
 unfolding contentOf contentBitsOf normalOf
 location-accept-slot-back i o =
     location-slot-back downlinks (λ d. d .«group_identity_downlink») locationAcceptFits locationAcceptBits (row i ofLocationAccept) isLocationAccept
     (λ d f. location-accept-fits d f .1) (λ d f ok h. record { short = h; reads = λ rest. rw (location-accept-back d f ok rest) }) (o .present) (o .value)
 
 pub downlinks-slot-back : (i : ℕ) (l : OptionalDownlinks) → ListOk downlinks l
-    → SlotBack identifierOf content contentBits elementNormal (row i ofDownlinks) (optionMap isDownlinks (listHeld downlinks l))
+    → SlotBack content contentBits elementNormal (row i ofDownlinks) (optionMap isDownlinks (listHeld downlinks l))
 unfolding contentOf contentBitsOf normalOf listBits
 downlinks-slot-back i l ok = go (l .present) refl
   where
-    go : (p : Bool) → l .present ≡ p → SlotBack identifierOf content contentBits elementNormal (row i ofDownlinks) (optionMap isDownlinks (held p l))
+    go : (p : Bool) → l .present ≡ p → SlotBack content contentBits elementNormal (row i ofDownlinks) (optionMap isDownlinks (held p l))
     go true e = record {
       short = rw e at (ok .short);
       reads = λ rest. rw (list-back downlinks-sound l e (ok .array) (ok .fits) (ok .one) (ok .listed) rest);

@@ -30,5 +30,4 @@ pub mod PlacedOptional
 pub mod PlacedGroups
 pub mod PlacedLists
 pub mod PlacedLocations
-pub mod Slotted
-pub mod PlacedScan
+pub mod Parts

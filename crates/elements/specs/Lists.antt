@@ -1,5 +1,5 @@
 -- Lists of groups: a type 4 element whose entries are read and written one by one. A list of no entries differs from an absent one.
-use Prim.Native.Nat.{ℕ, _+_, _-_, _≤_, _<_}
+use Prim.Native.Nat.{ℕ, _+_, _-_}
 use mathlib.Core.Path.{_≡_}
 use mathlib.Core.Bool.{Bool, true, false, _&&_}
 use mathlib.Core.Option.{Option, none, some}
@@ -62,9 +62,13 @@ module _ {G L : Type 0} (k : Groups G L) where
   listOf none = k .make false 0 (padded [])
   listOf (some gs) = k .make true (length gs) (padded gs)
 
+  -- m groups, as a list
+  abbrev pub groupsRead : ℕ → Reader L
+  groupsRead m = times m (k .group) >>= λ gs. got (listOf (some gs))
+
   -- the content of a list element of n bits
   unfoldable pub list : ℕ → Reader L
-  list = entries (λ m n. exactly n (times m (k .group) >>= λ gs. got (listOf (some gs))))
+  list = entries (λ m n. exactly n (groupsRead m))
 
   abbrev pub listHeld : L → Option L
   listHeld l = held (k .present l) l

@@ -10,14 +10,14 @@ use lib.Dec.{leb}
 use lib.Seq.{length-take-le, take-at}
 use borrow.Author.Tests.{leb-true, lt-ltb}
 use Rattle.bits.specs.Bits.{Bits}
-use Rattle.bits.specs.Reader.{Reader, got, _>>=_, times, exactly, Local}
+use Rattle.bits.specs.Reader.{got, times, exactly, Local}
 use Rattle.bits.specs.ReaderLaws.{local·rules, got-local, bind-local, times-local, local-tail, split-then, exactly-got, Passes, exactly-passes}
 use Rattle.elements.specs.Numbers.{held, optionAll, optionMap, Same}
 use Rattle.elements.specs.NumbersLaws.{never, both, same-map}
 use Rattle.elements.specs.GroupsLaws.{uplink-local, uplink-back, uplink-same, uplink-normal-same, uplink-own, downlink-local, downlink-back, downlink-same, downlink-normal-same, downlink-own}
 use Rattle.elements.specs.Generics.{entriesWidth}
 use Rattle.elements.specs.GenericsLaws.{entries-back, entries-got, exactly-back, entries-passes}
-use Rattle.elements.specs.Lists.{entriesMost, each, all, Each, both-end, one-more, Groups, padded, listOf, list, listBits, listFits, listOne, listListed, listNormal, SameList, uplinks, downlinks}
+use Rattle.elements.specs.Lists.{entriesMost, each, all, Each, both-end, one-more, Groups, padded, listOf, groupsRead, list, listBits, listFits, listOne, listListed, listNormal, SameList, uplinks, downlinks}
 
 -- what the laws below ask of a kind of group, and of the list that holds such groups
 pub record Sound {G L : Type 0} (k : Groups G L) : Type 0 where
@@ -58,14 +58,10 @@ downlinks-sound = record {
   whole = λ l. refl;
 }
 
--- the entries that follow their number
-abbrev pub entriesOf : {G L : Type 0} → Groups G L → ℕ → Reader L
-entriesOf k m = times m (k .group) >>= λ gs. got (listOf k (some gs))
-
 module _ {G L : Type 0} {k : Groups G L} (s : Sound k) where
   -- ## what a list's reader uses
 
-  pub entries-local : (m : ℕ) → Local (entriesOf k m)
+  pub entries-local : (m : ℕ) → Local (groupsRead k m)
   entries-local m = bind-local (times m (k .group)) _ (times-local m (k .group) (s .local)) (λ gs. got-local _)
 
   pub list-local : (n : ℕ) → Local (list k n)
@@ -74,7 +70,7 @@ module _ {G L : Type 0} {k : Groups G L} (s : Sound k) where
 
   pub list-passes : (n : ℕ) → Passes n (list k n)
   unfolding list
-  list-passes n = entries-passes (λ m n. exactly n (entriesOf k m)) (λ m n. exactly-passes n (entriesOf k m) (local-tail (entries-local m))) n
+  list-passes n = entries-passes (λ m n. exactly n (groupsRead k m)) (λ m n. exactly-passes n (groupsRead k m) (local-tail (entries-local m))) n
 
   -- ## reading back
 
@@ -100,8 +96,8 @@ module _ {G L : Type 0} {k : Groups G L} (s : Sound k) where
       let few : n ≤ entriesMost = leb-true _ _ (x .0) in
       let long : length gs ≡ n = length-take-le n (k .groups l) (omega arith) in
       let e = rw long at (times-back gs (x .1) (rw p at o) (rw p at h) rest) in
-      entries-back (λ m n. exactly n (entriesOf k m)) n (each (k .bits) gs) rest (lt-ltb n (2 ^ entriesWidth) (omega arith))
-      (exactly-back (entriesOf k n) (each (k .bits) gs) rest (rw (e, p)))
+      entries-back (λ m n. exactly n (groupsRead k m)) n (each (k .bits) gs) rest (lt-ltb n (2 ^ entriesWidth) (omega arith))
+      (exactly-back (groupsRead k n) (each (k .bits) gs) rest (rw (e, p)))
 
   -- ## the normal form
 
@@ -169,7 +165,7 @@ module _ {G L : Type 0} {k : Groups G L} (s : Sound k) where
   pub list-own : (n : ℕ) (bs : Bits) {l : L} {rest : Bits} → list k n bs ≡ got l rest → listNormal k l ≡ l
   unfolding list
   list-own n bs {l} e =
-      entries-got (λ m n. exactly n (entriesOf k m)) n bs e (λ m mid q.
-      split-then (times m (k .group) mid) _ (exactly-got _ (entriesOf k m) mid q .inner) (λ gs b₁ p₁ q₁.
+      entries-got (λ m n. exactly n (groupsRead k m)) n bs e (λ m mid q.
+      split-then (times m (k .group) mid) _ (exactly-got _ (groupsRead k m) mid q .inner) (λ gs b₁ p₁ q₁.
       let made : listOf k (some gs) ≡ l = cc in
       rw (← made) (normal-listOf (some gs) ∙ ap (λ x. listOf k (some x)) (times-own m mid p₁))))

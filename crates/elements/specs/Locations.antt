@@ -3,8 +3,8 @@
 use Prim.Native.Nat.{ℕ}
 use mathlib.Core.Path.{_≡_}
 use mathlib.Core.Bool.{Bool, true, false, _&&_}
-use mathlib.Core.Option.{Option, none, some}
-use mathlib.Core.List.{List, [], _∷_, _++_}
+use mathlib.Core.Option.{none}
+use mathlib.Core.List.{[], _∷_, _++_}
 use lib.ListN.{getD}
 use lib.Dec.{eqb}
 use Rattle.bits.specs.PduParseError.{invalidValue}
@@ -14,8 +14,6 @@ use Rattle.elements.specs.Numbers.{valueOr, inWidth, flagWidth, announce
 use Rattle.elements.specs.Table.{scanTable}
 use Rattle.elements.specs.TableWritten.{tableBits}
 use Rattle.elements.specs.Lists.{Groups, list, listOf, listHeld, listBits, listFits, listNormal, SameList, uplinks, downlinks}
-use Rattle.elements.specs.declared.group_identity_uplink.OptionalUplinks.{OptionalUplinks}
-use Rattle.elements.specs.declared.group_identity_downlink.OptionalDownlinks.{OptionalDownlinks}
 use Rattle.elements.specs.declared.group_identity_location_demand.GroupIdentityLocationDemand.{GroupIdentityLocationDemand}
 use Rattle.elements.specs.declared.group_identity_location_accept.GroupIdentityLocationAccept.{GroupIdentityLocationAccept}
 
@@ -41,10 +39,21 @@ groupIdentityDownlink = 7
 
 -- ## location demand
 
+-- the reserved bit has to be 0
+abbrev pub isUnset : ℕ → Bool
+isUnset r = eqb r 0
+
+abbrev pub demandReserved : ℕ → Reader Unit
+demandReserved r = unless (isUnset r) invalidValue
+
+-- before the list: the reserved bit, and the mode
+abbrev pub demandFront : {D : Type 0} → (ℕ → Reader D) → Reader D
+demandFront f = field flagWidth >>= λ r. demandReserved r >>= λ z. field flagWidth >>= f
+
 unfoldable pub demandBody : Reader GroupIdentityLocationDemand
 demandBody =
-    field flagWidth >>= λ r. unless (eqb r 0) invalidValue >>= λ z. field flagWidth >>= λ m. nested uplinks groupIdentityUplink >>= λ l.
-    got (record { «group_identity_attach_detach_mode» = m; «group_identity_uplink» = l })
+    demandFront (λ m. nested uplinks groupIdentityUplink >>= λ l.
+    got (record { «group_identity_attach_detach_mode» = m; «group_identity_uplink» = l }))
 
 unfoldable pub locationDemand : ℕ → Reader GroupIdentityLocationDemand
 locationDemand n = exactly n demandBody
@@ -72,10 +81,18 @@ pub record SameLocationDemand (d e : GroupIdentityLocationDemand) : Type 0 where
 
 -- ## location accept
 
+-- the reserved bit, whatever it is
+abbrev pub acceptReserved : Reader Unit
+acceptReserved = pass flagWidth
+
+-- before the list: the answer, and the reserved bit
+abbrev pub acceptFront : {D : Type 0} → (ℕ → Reader D) → Reader D
+acceptFront f = field flagWidth >>= λ a. acceptReserved >>= λ z. f a
+
 unfoldable pub acceptBody : Reader GroupIdentityLocationAccept
 acceptBody =
-    field flagWidth >>= λ a. pass flagWidth >>= λ z. nested downlinks groupIdentityDownlink >>= λ l.
-    got (record { «group_identity_accept_reject» = a; «group_identity_downlink» = l })
+    acceptFront (λ a. nested downlinks groupIdentityDownlink >>= λ l.
+    got (record { «group_identity_accept_reject» = a; «group_identity_downlink» = l }))
 
 unfoldable pub locationAccept : ℕ → Reader GroupIdentityLocationAccept
 locationAccept n = exactly n acceptBody

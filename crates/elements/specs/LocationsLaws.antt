@@ -6,10 +6,9 @@ use mathlib.Core.Option.{Option, none, some}
 use mathlib.Core.List.{List, [], _∷_, _++_, append-assoc}
 use lib.ListN.{length, getD}
 use lib.Dec.{eqb, lit<}
-use Rattle.bits.specs.PduParseError.{invalidValue}
 use Rattle.bits.specs.Bits.{Bits, bit, digits}
 use Rattle.bits.specs.BitsLaws.{bit-lt}
-use Rattle.bits.specs.Reader.{Reader, got, _>>=_, field, pass, unless, exactly, Local}
+use Rattle.bits.specs.Reader.{Reader, got, _>>=_, field, pass, exactly, Local}
 use Rattle.bits.specs.ReaderLaws.{local·rules, local-tail, got-local, bind-local, field-back, split-then, exactly-local, exactly-got, Passes, exactly-passes}
 use Rattle.elements.specs.Numbers.{flagWidth, held, valueOr, optionBits, inWidth}
 use Rattle.elements.specs.NumbersLaws.{both, number-back}
@@ -20,7 +19,7 @@ use Rattle.elements.specs.TableBack.{distinct, normalSlots, table-back}
 use Rattle.elements.specs.GenericsLaws.{exactly-back}
 use Rattle.elements.specs.Lists.{entriesMost, Groups, list, listOf, listHeld, listBits, listFits, listOne, listListed, listNormal, uplinks, downlinks}
 use Rattle.elements.specs.ListsLaws.{Sound, uplinks-sound, downlinks-sound, list-local, list-back, list-same, list-normal-same, list-own, absent-own}
-use Rattle.elements.specs.Locations.{nested-if, nested, nestedBits, groupIdentityUplink, groupIdentityDownlink, demandBody, locationDemand, noLocationDemand, locationDemandBits, locationDemandFits, locationDemandNormal, SameLocationDemand, acceptBody, locationAccept, noLocationAccept, locationAcceptBits, locationAcceptFits, locationAcceptNormal, SameLocationAccept}
+use Rattle.elements.specs.Locations.{nested-if, nested, nestedBits, groupIdentityUplink, groupIdentityDownlink, demandReserved, demandFront, demandBody, locationDemand, noLocationDemand, locationDemandBits, locationDemandFits, locationDemandNormal, SameLocationDemand, acceptReserved, acceptFront, acceptBody, locationAccept, noLocationAccept, locationAcceptBits, locationAcceptFits, locationAcceptNormal, SameLocationAccept}
 use Rattle.elements.specs.declared.group_identity_uplink.OptionalUplinks.{OptionalUplinks}
 use Rattle.elements.specs.declared.group_identity_downlink.OptionalDownlinks.{OptionalDownlinks}
 use Rattle.elements.specs.declared.group_identity_location_demand.GroupIdentityLocationDemand.{GroupIdentityLocationDemand}
@@ -64,7 +63,7 @@ module _ {G L : Type 0} {k : Groups G L} (s : Sound k) (i : ℕ) where
       test false mid q = let made : listOf k none ≡ l = cc in rw (← made) (absent-own s)
 
   -- a list that is written is read back, in normal form
-  pub nested-back : distinct (λ i. i) (λ i. list k) (i ∷ []) ≡ true → (l : L) → ListOk k l → (rest : Bits)
+  pub nested-back : distinct (λ i. i) (i ∷ []) ≡ true → (l : L) → ListOk k l → (rest : Bits)
       → nested k i (nestedBits k i l ++ rest) ≡ got (listNormal k l) rest
   unfolding nested nestedBits normalSlots listNormal
   nested-back apart l ok rest =
@@ -102,7 +101,7 @@ module _ {G L D : Type 0} {k : Groups G L} (s : Sound k) (i : ℕ) (of : ℕ →
   location-passes : (n : ℕ) → Passes n (exactly n body)
   location-passes n = exactly-passes n body (local-tail body-local)
 
-  location-back : distinct (λ i. i) (λ i. list k) (i ∷ []) ≡ true → (m : ℕ) (l : L) → inWidth flagWidth m ≡ true → ListOk k l → (rest : Bits)
+  location-back : distinct (λ i. i) (i ∷ []) ≡ true → (m : ℕ) (l : L) → inWidth flagWidth m ≡ true → ListOk k l → (rest : Bits)
       → exactly (length (write m (nestedBits k i l))) body (write m (nestedBits k i l) ++ rest) ≡ got (of m (listNormal k l)) rest
   location-back apart m l f ok rest =
       exactly-back body (write m (nestedBits k i l)) rest (front .back _ m f (nestedBits k i l) rest ∙ rw (nested-back s i apart l ok rest))
@@ -121,14 +120,13 @@ module _ {G L D : Type 0} {k : Groups G L} (s : Sound k) (i : ℕ) (of : ℕ →
 abbrev pub demandOf : ℕ → OptionalUplinks → GroupIdentityLocationDemand
 demandOf m l = record { «group_identity_attach_detach_mode» = m; «group_identity_uplink» = l }
 
-demand-front : Front {D = GroupIdentityLocationDemand} (λ f. field flagWidth >>= λ r. unless (eqb r 0) invalidValue >>= λ z. field flagWidth >>= f)
-    (λ m xs. digits flagWidth 0 ++ (digits flagWidth m ++ xs))
+demand-front : Front {D = GroupIdentityLocationDemand} demandFront (λ m xs. digits flagWidth 0 ++ (digits flagWidth m ++ xs))
 demand-front = record {
   local = λ f l. search local·rules depth 8;
   back = λ f m h xs rest. simp append-assoc (rw (field-back flagWidth 0 (digits flagWidth m ++ (xs ++ rest)) (lit< tt)) (rw (number-back flagWidth m h (xs ++ rest))));
   goes = λ f bs d rest e.
       split-then (field flagWidth bs) _ e (λ r b₁ p₁ q₁.
-      split-then (unless (eqb r 0) invalidValue b₁) _ q₁ (λ z b₂ p₂ q₂.
+      split-then (demandReserved r b₁) _ q₁ (λ z b₂ p₂ q₂.
       split-then (field flagWidth b₂) f q₂ (λ m b₃ p₃ q₃. (m, b₃, q₃))));
 }
 
@@ -177,15 +175,14 @@ location-demand-normal-same d f full = record { mode = refl; list = list-normal-
 abbrev pub acceptOf : ℕ → OptionalDownlinks → GroupIdentityLocationAccept
 acceptOf m l = record { «group_identity_accept_reject» = m; «group_identity_downlink» = l }
 
-accept-front : Front {D = GroupIdentityLocationAccept} (λ f. field flagWidth >>= λ a. pass flagWidth >>= λ z. f a)
-    (λ m xs. digits flagWidth m ++ (digits flagWidth 0 ++ xs))
+accept-front : Front {D = GroupIdentityLocationAccept} acceptFront (λ m xs. digits flagWidth m ++ (digits flagWidth 0 ++ xs))
 unfolding pass
 accept-front = record {
   local = λ f l. search local·rules depth 8;
   back = λ f m h xs rest. simp append-assoc (rw (number-back flagWidth m h (digits flagWidth 0 ++ (xs ++ rest))) (rw (field-back flagWidth 0 (xs ++ rest) (lit< tt))));
   goes = λ f bs d rest e.
       split-then (field flagWidth bs) _ e (λ m b₁ p₁ q₁.
-      split-then (pass flagWidth b₁) _ q₁ (λ z b₂ p₂ q₂. (m, b₂, q₂)));
+      split-then (acceptReserved b₁) _ q₁ (λ z b₂ p₂ q₂. (m, b₂, q₂)));
 }
 
 pub location-accept-fits : (d : GroupIdentityLocationAccept) → locationAcceptFits d ≡ true

@@ -1,7 +1,7 @@
 -- The numbers of reading: below a call, a reader refuses with 2 to 7 alone.
-use Prim.Native.Nat.{ℕ, zero, suc, _+_, _-_, _≤_, _<_}
+use Prim.Native.Nat.{ℕ, zero, suc, _+_, _-_, _≤_}
 use native.Mathlib.Omega.{arith}
-use mathlib.Core.Path.{_≡_, refl, sym, _∙_}
+use mathlib.Core.Path.{_≡_, refl}
 use mathlib.Core.Bool.{Bool, true, false, cond}
 use mathlib.Core.Option.{Option, none, some}
 use mathlib.Core.List.{List, [], _∷_}
@@ -10,15 +10,15 @@ use lib.Dec.{leb, eqb}
 use Rattle.bits.specs.PduParseError.{bufferEnded, invalidValue, type4Underflow, inconsistentLength, invalidTrailingMbitValue}
 use Rattle.bits.specs.Bits.{Bits, number}
 use Rattle.bits.specs.Reader.{Answer, got, refused, Reader, then, _>>=_, field, pass, unless, optional, exactly, times}
-use Rattle.elements.specs.Table.{mbitWidth, Look, outside, ends, opens, look, header, closing, usedOf, whole, piece, Piece, next-if, next-at, next, onward, manyOf, many, pieces, Counted, counted, element, slot-if, slot-at, slot, skip, scan, scanTable}
+use Rattle.bits.specs.ReaderLaws.{got-refused, refused-same, optional-made, times-made}
+use Rattle.elements.specs.Table.{mbitWidth, Look, outside, ends, opens, look, header, closing, usedOf, whole, piece, Piece, next-if, next-at, next, onward, manyOf, many, pieces, element, slot-if, slot-at, slot, skip, scan, scanTable}
 use Rattle.elements.specs.Numbers.{flagWidth, type2}
 use Rattle.elements.specs.Groups.{Form, addressOf, uplinkAddress, downlinkAddress, uplink, downlink, attachmentInfo}
 use Rattle.elements.specs.ClassOfMs.{numbers, classOfMs}
 use Rattle.elements.specs.EnergySaving.{energySaving}
 use Rattle.elements.specs.Generics.{kept, type3, type4, entries, entriesWidth}
 use Rattle.elements.specs.Lists.{Groups, list, listOf, uplinks, downlinks}
-use Rattle.elements.specs.Locations.{groupIdentityUplink, groupIdentityDownlink, nested, nested-if, demandBody, locationDemand, acceptBody, locationAccept}
-use Rattle.elements.specs.declared.typed_pdu_fields.Type4FieldGeneric.{Type4FieldGeneric}
+use Rattle.elements.specs.Locations.{groupIdentityUplink, groupIdentityDownlink, nested, nested-if, isUnset, demandReserved, demandBody, locationDemand, acceptReserved, acceptBody, locationAccept}
 use Rattle.elements.specs.Kinds.{Kind, genericType3, genericType4, ofLocationDemand, ofLocationAccept, ofDownlinks, contentOf, Slot, content}
 
 -- one of the numbers 2 to 7
@@ -28,12 +28,6 @@ pub record ReadingNumber (n : ℕ) : Type 0 where
 
 pub record Numbered {A : Type 0} (r : Reader A) : Type 0 where
   pub at : (bs : Bits) (n : ℕ) → r bs ≡ refused n → ReadingNumber n
-
-got-refused : {A B : Type 0} {n : ℕ} {a : A} {rest : Bits} → got a rest ≡ refused n → B
-got-refused e = let z : _≡_ {A = ℕ} 0 1 = cc in absurd (omega arith)
-
-refused-same : {A : Type 0} {m n : ℕ} → _≡_ {A = Answer A} (refused m) (refused n) → m ≡ n
-refused-same e = cc
 
 pub got-numbered : {A : Type 0} (x : A) → Numbered (λ bs. got x bs)
 got-numbered x = record { at = λ bs n e. got-refused e }
@@ -68,13 +62,10 @@ unless-numbered true m h = got-numbered tt
 unless-numbered false m h = refused-numbered m h
 
 pub optional-numbered : {A B : Type 0} (present : A → B) (absent : B) (b : Bool) (r : Reader A) → Numbered r → Numbered (optional present absent b r)
-optional-numbered present absent true r h = bind-numbered r _ h (λ a. got-numbered (present a))
-optional-numbered present absent false r h = got-numbered absent
+optional-numbered = optional-made (λ A. Numbered) (λ A. got-numbered) (λ A B. bind-numbered)
 
 pub times-numbered : {A : Type 0} (k : ℕ) (r : Reader A) → Numbered r → Numbered (times k r)
-unfolding times
-times-numbered zero r h = got-numbered []
-times-numbered (suc k) r h = bind-numbered r _ h (λ a. bind-numbered (times k r) _ (times-numbered k r h) (λ xs. got-numbered (a ∷ xs)))
+times-numbered = times-made (λ A. Numbered) (λ A. got-numbered) (λ A B. bind-numbered)
 
 pub exactly-numbered : {A : Type 0} (n : ℕ) (r : Reader A) → Numbered r → Numbered (exactly n r)
 exactly-numbered {A} n r h = record { at = λ bs m e. go bs m (r bs) refl e }
@@ -242,7 +233,7 @@ location-demand-numbered : (n : ℕ) → Numbered (locationDemand n)
 unfolding locationDemand demandBody
 location-demand-numbered n =
     exactly-numbered n _
-    (bind-numbered (field flagWidth) _ (field-numbered flagWidth) (λ r. bind-numbered (unless (eqb r 0) invalidValue) _ (unless-numbered (eqb r 0) invalidValue four)
+    (bind-numbered (field flagWidth) _ (field-numbered flagWidth) (λ r. bind-numbered (demandReserved r) _ (unless-numbered (isUnset r) invalidValue four)
     (λ z. bind-numbered (field flagWidth) _ (field-numbered flagWidth) (λ m. bind-numbered (nested uplinks groupIdentityUplink) _
     (nested-numbered uplinks groupIdentityUplink uplink-numbered) (λ l. got-numbered _)))))
 
@@ -250,7 +241,7 @@ location-accept-numbered : (n : ℕ) → Numbered (locationAccept n)
 unfolding locationAccept acceptBody
 location-accept-numbered n =
     exactly-numbered n _
-    (bind-numbered (field flagWidth) _ (field-numbered flagWidth) (λ a. bind-numbered (pass flagWidth) _ (pass-numbered flagWidth)
+    (bind-numbered (field flagWidth) _ (field-numbered flagWidth) (λ a. bind-numbered acceptReserved _ (pass-numbered flagWidth)
     (λ z. bind-numbered (nested downlinks groupIdentityDownlink) _ (nested-numbered downlinks groupIdentityDownlink downlink-numbered) (λ l. got-numbered _))))
 
 pub content-numbered : (s : Slot) (n : ℕ) → Numbered (content s n)

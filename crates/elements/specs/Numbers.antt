@@ -1,9 +1,9 @@
 -- Numbers that may be absent: read, written, asked for their width; and the values of what may be absent.
 use Prim.Native.Nat.{ℕ, _^_}
 use mathlib.Core.Path.{_≡_}
-use mathlib.Core.Bool.{Bool, true, false, cond, not, _&&_, _||_}
+use mathlib.Core.Bool.{Bool, true, false, cond}
 use mathlib.Core.Option.{Option, none, some}
-use mathlib.Core.List.{List, [], _∷_, _++_}
+use mathlib.Core.List.{[], _++_}
 use lib.Dec.{ltb, eqb}
 use Rattle.bits.specs.Bits.{Bits, bit, digits}
 use Rattle.bits.specs.Reader.{Reader, got, _>>=_, field, optional}
@@ -79,6 +79,10 @@ flagWidth = 1
 -- P-bit, then the value if it is 1
 abbrev pub type2 : {A : Type 0} → Reader A → Reader (Option A)
 type2 r = field flagWidth >>= λ p. optional some none (eqb p 1) r
+
+-- the same, held as f makes it
+abbrev pub type2As : {A B : Type 0} → (Option A → B) → Reader A → Reader B
+type2As f r = type2 r >>= λ o. got (f o)
 
 abbrev pub type2Bits : {A : Type 0} → (A → Bits) → Option A → Bits
 type2Bits bits o = digits flagWidth (bit (isPresent o)) ++ optionBits bits o

@@ -6,14 +6,14 @@ use mathlib.Core.Option.{Option, none, some}
 use mathlib.Core.List.{List}
 use lib.Dec.{eqb}
 use Rattle.bits.specs.Bits.{Bits}
-use Rattle.bits.specs.Reader.{Answer, got, refused, Reader, then, _>>=_, field, optional, Local}
-use Rattle.bits.specs.ReaderLaws.{local·rules, local-tail, field-local, optional-local}
+use Rattle.bits.specs.Reader.{got, Reader, _>>=_, field, optional, Local}
+use Rattle.bits.specs.ReaderLaws.{then-then, local·rules, local-tail, field-local, optional-local}
 use Rattle.bits.specs.Placed.{window, Placed, placed, halted, at}
 use Rattle.bits.specs.PlacedLaws.{Gives, step, stop, done}
 use Rattle.bits.specs.PlacedTimes.{alike}
 use Rattle.bits.specs.declared.bitbuffer.Cursor.{Cursor}
-use Rattle.elements.specs.Numbers.{flagWidth, optionalNumber, u8Of}
-use Rattle.elements.specs.Groups.{addressTypeWidth, addressWidth, Form, formAt, Address, addressOf, uplinkAddress, downlinkAddress, classOfUsageWidth, detachmentWidth, attachment, detachment, attachmentInfo, uplinkOf, downlinkOf}
+use Rattle.elements.specs.Numbers.{flagWidth, u8Of}
+use Rattle.elements.specs.Groups.{addressTypeWidth, addressWidth, Form, formAt, Address, addressOf, typedAddress, uplinkAddress, downlinkAddress, classOfUsageWidth, detachmentWidth, attachment, detachment, attachmentInfo, groupWith, uplinkOf, downlinkOf}
 use Rattle.elements.specs.GroupsLaws.{uplinkAddress-local, downlinkAddress-local, attachmentInfo-local}
 use Rattle.elements.specs.Answers.{u32Of, optionalU8, optionalU32}
 use Rattle.elements.specs.GroupAnswers.{groupAddress, addressRead, attachmentOf}
@@ -27,10 +27,6 @@ use Rattle.elements.specs.declared.group_identity_uplink.GroupIdentityUp
 use Rattle.elements.specs.declared.group_identity_downlink.GroupIdentityDownlink.{GroupIdentityDownlink}
 
 -- ## addresses
-
-then-then : {A B C : Type 0} (x : Answer A) (f : A → Reader B) (g : B → Reader C) → then (then x f) g ≡ then x (λ a. f a >>= g)
-then-then (got a rest) f g = refl
-then-then (refused n) f g = refl
 
 -- an address, as the code holds it, of its parts
 abbrev addressFrom : OptionalU32 → OptionalU32 → OptionalU32 → GroupAddress
@@ -83,19 +79,16 @@ module _ (f : Form) {os : List ℕ} {c : Cursor} where
           (search local·rules depth 12) (ends (λ i. addressFrom (p i) (q i) (s i))))))
 
 -- an address: its type, then the parts that this type has
-abbrev typed : List Form → Reader Address
-typed forms = field addressTypeWidth >>= λ t. addressOf (formAt forms t)
-
 module _ (forms : List Form) where
-  typed-is : (bs : Bits) → addressRead (typed forms) bs ≡ (field addressTypeWidth >>= λ t. addressRead (addressOf (formAt forms t))) bs
+  typed-is : (bs : Bits) → addressRead (typedAddress forms) bs ≡ (field addressTypeWidth >>= λ t. addressRead (addressOf (formAt forms t))) bs
   typed-is bs = then-then (field addressTypeWidth bs) (λ t. addressOf (formAt forms t)) (λ a. got (groupAddress a))
 
-  pub no-type : {os : List ℕ} {c : Cursor} {m : ℕ} → Gives (field addressTypeWidth) os c (halted m) → Gives (addressRead (typed forms)) os c (halted m)
+  pub no-type : {os : List ℕ} {c : Cursor} {m : ℕ} → Gives (field addressTypeWidth) os c (halted m) → Gives (addressRead (typedAddress forms)) os c (halted m)
   no-type {os} {c} e = alike (field addressTypeWidth >>= λ t. addressRead (addressOf (formAt forms t))) (typed-is (window os c)) (stop _ e)
 
   -- the parts of the type n
   pub of-type : (n : ℕ) {os : List ℕ} {c : Cursor} {t : ℕ} {k : Cursor} → Gives (field addressTypeWidth) os c (placed t k) → t ≡ n → {x : Placed GroupAddress}
-      → x ≡ at (addressRead (addressOf (formAt forms n))) os k → x ≡ at (addressRead (typed forms)) os c
+      → x ≡ at (addressRead (addressOf (formAt forms n))) os k → x ≡ at (addressRead (typedAddress forms)) os c
   of-type n {os} {c} {t} {k} e h {x} p =
       let g : Gives (addressRead (addressOf (formAt forms t))) os k x = record { eq = rw h (sym p) } in
       sym (alike (field addressTypeWidth >>= λ t. addressRead (addressOf (formAt forms t))) (typed-is (window os c))
@@ -115,9 +108,7 @@ pub record Shape (T P G : Type 0) : Type 0 where
   pub address-local : Local address
 
 abbrev pub group : {T P G : Type 0} → Shape T P G → Reader G
-group s =
-    field flagWidth >>= λ k. optional some none (eqb k attachment) (s .info) >>= λ t. optionalNumber (eqb k detachment) detachmentWidth >>= λ d.
-    s .address >>= λ a. got (s .groupOf t d a)
+group s = groupWith (s .info) (s .address) (s .groupOf)
 
 abbrev pub informed : {T P G : Type 0} → Shape T P G → Bool → Reader P
 informed s b = optional (λ t. s .infoOf (some t)) (s .infoOf none) b (s .info)

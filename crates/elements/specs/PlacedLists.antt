@@ -20,10 +20,9 @@ use Rattle.bits.specs.declared.bitbuffer.Moved.{Moved}
 use Rattle.bits.specs.declared.bitbuffer.Moved.the-variants as M
 use Rattle.elements.specs.Generics.{entriesWidth}
 use Rattle.elements.specs.Table.{lengthWidth}
-use Rattle.elements.specs.Lists.{Groups, listOf, list, entriesMost}
+use Rattle.elements.specs.Lists.{Groups, listOf, groupsRead, list, entriesMost}
 use Rattle.elements.specs.ListsLaws.{Sound, entries-local}
 use Rattle.elements.specs.Rows.{sized}
-use Rattle.elements.specs.GroupAnswers.{groupsRead}
 use Rattle.elements.specs.Verdicts.{answer, returned, Beside, verdict-to, verdict-refused}
 
 -- ## a loop that fills the array

@@ -1,22 +1,21 @@
 -- A list inside a structure, a structure of a declared length, and the slots of a message's table, read at a cursor: for any kind of
 -- group, any front of a structure and any kind of content.
-use Prim.Native.Nat.{ℕ, _+_, _-_, _≤_}
-use mathlib.Core.Path.{_≡_, refl}
+use Prim.Native.Nat.{ℕ, _-_, _≤_}
+use mathlib.Core.Path.{_≡_, refl, sym, _∙_}
 use mathlib.Core.Bool.{true}
 use mathlib.Core.Option.{Option, none}
-use mathlib.Core.List.{List, [], _∷_}
-use lib.ListN.{getD}
+use mathlib.Core.List.{List, []}
 use borrow.Author.Tests.{eq-eqb, ne-eqb}
 use Rattle.bits.specs.PduParseError.{inconsistentLength}
 use Rattle.bits.specs.Bits.{Bits}
 use Rattle.bits.specs.Reader.{Answer, got, refused, Reader, then, _>>=_, field, exactly, Tail}
-use Rattle.bits.specs.ReaderLaws.{local·rules, local-tail, field-local, bind-tail}
+use Rattle.bits.specs.ReaderLaws.{then-then, then-same, local·rules, local-tail, field-local, bind-tail}
 use Rattle.bits.specs.Placed.{window, Placed, placed, halted}
 use Rattle.bits.specs.PlacedLaws.{Gives, told, step, stop, done}
 use Rattle.bits.specs.PlacedTimes.{alike, exact, inexact, exact-stop}
 use Rattle.bits.specs.declared.bitbuffer.Cursor.{Cursor}
-use Rattle.elements.specs.Numbers.{flagWidth, valueOr}
-use Rattle.elements.specs.Table.{Counted, counted, closing, slot, scan}
+use Rattle.elements.specs.Numbers.{flagWidth}
+use Rattle.elements.specs.Table.{counted, closing, slot, scan}
 use Rattle.elements.specs.TableLaws.{closing-local, slot-tail}
 use Rattle.elements.specs.Lists.{Groups, list, listOf}
 use Rattle.elements.specs.ListsLaws.{Sound, list-local}
@@ -45,19 +44,11 @@ sized-kept r bs = λ j. sized (λ n rest. kept (r n) rest j) bs
 -- behind an O-bit of 1: the list's slot, and the closing M-bit
 nested-slot : {G L : Type 0} (k : Groups G L) (i : ℕ) (bs : Bits) → nested-if k i true bs ≡ (nestedSlot k i >>= λ l. closing >>= λ z. got l) bs
 unfolding scan nestedSlot
-nested-slot {G} {L} k i bs = go (slot (λ i. i) (λ i. list k) i bs)
-  where
-    last : (o : Option L) (y : Answer Unit)
-        → then (then (then y (λ z. got (counted 0 []))) (λ (x : Counted (List (Option L))). got (counted (0 + x .skipped) (o ∷ x .value)))) (λ x. got (valueOr (listOf k none) (getD (x .value) 0 none)))
-        ≡ then y (λ z. got (valueOr (listOf k none) o))
-    last o (got z rest) = refl
-    last o (refused n) = refl
-
-    go : (y : Answer (Option L))
-        → then (then y (λ o. (closing >>= λ z. got (counted 0 [])) >>= λ (x : Counted (List (Option L))). got (counted (0 + x .skipped) (o ∷ x .value)))) (λ x. got (valueOr (listOf k none) (getD (x .value) 0 none)))
-        ≡ then (then y (λ o. got (valueOr (listOf k none) o))) (λ l. closing >>= λ z. got l)
-    go (got o rest) = last o (closing rest)
-    go (refused n) = refl
+nested-slot {G} {L} k i bs =
+    let x : Answer (Option L) = slot (λ i. i) (λ i. list k) i bs in
+    then-then x _ _
+    ∙ then-same x (λ o rest. then-then ((closing >>= λ z. got (counted 0 [])) rest) _ _ ∙ then-then (closing rest) _ _)
+    ∙ sym (then-then x _ _)
 
 module _ {G L : Type 0} {k : Groups G L} (s : Sound k) (i : ℕ) where
   nested-slot-tail : Tail (nestedSlot k i)

@@ -4,12 +4,15 @@ use mathlib.Core.Path.{_≡_, sym, ap, _∙_}
 use mathlib.Core.Bool.{Bool, true, false}
 use mathlib.Core.Option.{Option, none, some}
 use mathlib.Core.List.{List}
+use lib.Dec.{eqb}
+use Rattle.bits.specs.Bits.{Bits}
 use Rattle.bits.specs.Reader.{Answer, Reader, got, refused, then, _>>=_, field, optional, Local, Tail}
-use Rattle.bits.specs.ReaderLaws.{local-tail, field-local, field-lt, got-local, bind-tail, optional-local, split-then, refused-got}
+use Rattle.bits.specs.ReaderLaws.{local-tail, field-local, field-lt, got-local, bind-tail, optional-local, split-then, got-refused, then-then, then-same}
 use Rattle.bits.specs.Placed.{window, Placed, placed, halted}
-use Rattle.bits.specs.PlacedLaws.{Gives, told, told-not, gives, gives-not, done}
+use Rattle.bits.specs.PlacedLaws.{Gives, told, told-not, gives, gives-not, step, stop, done}
 use Rattle.bits.specs.PlacedTimes.{alike, optional-through}
 use Rattle.bits.specs.declared.bitbuffer.Cursor.{Cursor}
+use Rattle.elements.specs.Numbers.{flagWidth, type2As}
 
 -- the end, with a value that is equal
 pub ends : {A : Type 0} {a b : A} {os : List ℕ} {c : Cursor} → a ≡ b → Gives (got a) os c (placed b c)
@@ -45,7 +48,7 @@ module _ {A B : Type 0} (f : A → B) (r : Reader A) {os : List ℕ} {c : Cursor
   made-not {n} e = gives-not (go (r (window os c)) (told-not e))
     where
       go : (x : Answer A) → then x (λ a. got (f a)) ≡ refused n → x ≡ refused n
-      go (got a rest) q = refused-got (sym q)
+      go (got a rest) q = got-refused q
       go (refused m) q = cc
 
 -- the same of what may be absent
@@ -58,3 +61,19 @@ module _ {A B : Type 0} (f : Option A → B) (b : Bool) (r : Reader A) {os : Lis
 
   pub option-not : {n : ℕ} → Gives (optional (λ a. f (some a)) (f none) b r) os c (halted n) → Gives (optional some none b r) os c (halted n)
   option-not e = made-not f (optional some none b r) (alike (optional (λ a. f (some a)) (f none) b r) (sym (optional-through f b r (window os c))) e)
+
+-- ## a type 2 element that the code holds as f makes it
+
+module _ {A B : Type 0} (f : Option A → B) (r : Reader A) where
+  -- in the code's form: the P-bit, then the value if it is 1
+  pub type2-through : (bs : Bits) → type2As f r bs ≡ (field flagWidth >>= λ p. optional (λ a. f (some a)) (f none) (eqb p 1) r) bs
+  type2-through bs =
+      then-then (field flagWidth bs) _ _ ∙ then-same (field flagWidth bs) (λ p rest. sym (optional-through f (eqb p 1) r rest))
+
+  module _ {os : List ℕ} {c : Cursor} where
+    pub type2-there : {p : ℕ} {k : Cursor} {x : Placed B} → Gives (field flagWidth) os c (placed p k)
+        → Gives (optional (λ a. f (some a)) (f none) (eqb p 1) r) os k x → Gives (type2As f r) os c x
+    type2-there e g = alike _ (type2-through (window os c)) (step _ e (local-tail (field-local flagWidth)) g)
+
+    pub type2-ended : {n : ℕ} → Gives (field flagWidth) os c (halted n) → Gives (type2As f r) os c (halted n)
+    type2-ended e = stop _ (stop _ e)

@@ -12,7 +12,7 @@ use borrow.Author.Tests.{eq-eqb, ne-eqb}
 use Rattle.bits.specs.PduParseError.{bufferEnded}
 use Rattle.bits.specs.Bits.{Bits, number}
 use Rattle.bits.specs.Reader.{Answer, got, refused, Reader, then, _>>=_, field, pass, Local, Tail}
-use Rattle.bits.specs.ReaderLaws.{local·rules, bind-tail, split-then, refused-got, field-got, field-lt}
+use Rattle.bits.specs.ReaderLaws.{then-then, then-same, local·rules, bind-tail, split-then, got-refused, field-got, field-lt}
 use Rattle.bits.specs.Placed.{window, Placed, placed, halted, place, at}
 use Rattle.bits.specs.PlacedLaws.{Gives, told, told-not, gives-not, step, stop, done}
 use Rattle.bits.specs.PlacedTimes.{alike}
@@ -20,9 +20,10 @@ use Rattle.bits.specs.declared.bitbuffer.Cursor.{Cursor}
 use Rattle.elements.specs.Numbers.{u8Of, flagWidth}
 use Rattle.elements.specs.Table.{identifierWidth, lengthWidth, outside, ends, opens, look, Header, header, usedOf, whole, Piece, piece, onward, pieces, Counted, counted, isListed, slot, skip}
 use Rattle.elements.specs.TableLaws.{Halts, at-end, at-stop, pieces-unfold, pieces-halts, pieces-got, stands-shrinks, slot-tail, skip-tail}
-use Rattle.elements.specs.Kinds.{Slot, identifierOf, content}
+use Rattle.elements.specs.PlacedOptional.{type2-through}
+use Rattle.elements.specs.Kinds.{Slot, Element, identifierOf, content}
 use Rattle.elements.specs.KindsLaws.{content-local}
-use Rattle.elements.specs.Rows.{sized, skipping, genericRow, genericSlot, generics}
+use Rattle.elements.specs.Rows.{sized, skipping, genericRow, genericIn, genericSlot, generics}
 use Rattle.elements.specs.Answers.{optionalU8, opening, scanAnswer}
 use Rattle.elements.specs.declared.typed_pdu_fields.OptionalU8.{OptionalU8}
 use Rattle.elements.specs.declared.typed_pdu_fields.Generic.{Generic}
@@ -35,7 +36,7 @@ unfolding field
 field-refused w bs {n} e = go (leb w (length bs)) e
   where
     go : (b : Bool) → cond b (got (number (take w bs)) (drop w bs)) (refused bufferEnded) ≡ refused n → n ≡ bufferEnded
-    go true e = refused-got (sym e)
+    go true e = got-refused e
     go false e = cc
 
 pub opening-tail : Tail opening
@@ -52,7 +53,7 @@ record Opened (bs : Bits) (o : OptionalU8) (rest : Bits) : Type 0 where
 
 opened : (bs : Bits) {o : OptionalU8} {rest : Bits} → opening bs ≡ got o rest → Opened bs o rest
 unfolding look header
-opened bs {o} {rest} e = split-then (field flagWidth bs) _ e (λ m mid p q. go m mid p (field-lt flagWidth bs p) q)
+opened bs {o} {rest} e = split-then (field flagWidth bs) _ (sym (type2-through u8Of (field identifierWidth) bs) ∙ e) (λ m mid p q. go m mid p (field-lt flagWidth bs p) q)
   where
     shorter : (m : ℕ) (mid : Bits) → field flagWidth bs ≡ got m mid → length mid < length bs
     shorter m mid p = let g = field-got flagWidth bs p in omega (arith, g .enough, ap length (g .left), length-drop flagWidth bs)
@@ -80,14 +81,14 @@ opened bs {o} {rest} e = split-then (field flagWidth bs) _ e (λ m mid p q. go m
 -- it is refused where the look sees nothing
 opening-outside : (bs : Bits) {n : ℕ} → opening bs ≡ refused n → (look bs ≡ outside) × (n ≡ bufferEnded)
 unfolding look
-opening-outside bs {n} e = first (field flagWidth bs) refl e
+opening-outside bs {n} e = first (field flagWidth bs) refl (sym (type2-through u8Of (field identifierWidth) bs) ∙ e)
   where
     second : (mid : Bits) (x : Answer ℕ) → field identifierWidth mid ≡ x → then x (λ i. got (u8Of (some i))) ≡ refused n → (x ≡ refused n) × (n ≡ bufferEnded)
-    second mid (got i end) p e = refused-got (sym e)
+    second mid (got i end) p e = got-refused e
     second mid (refused k) p e = let h : k ≡ n = cc in (ap refused h, sym h ∙ field-refused identifierWidth mid p)
 
     go : (m : ℕ) (mid : Bits) → field flagWidth bs ≡ got m mid → m < 2 ^ flagWidth → optionalU8 (eqb m 1) (field identifierWidth) mid ≡ refused n → (look bs ≡ outside) × (n ≡ bufferEnded)
-    go zero mid p l q = refused-got (sym q)
+    go zero mid p l q = got-refused q
     go (suc zero) mid p l q = let s = second mid (field identifierWidth mid) refl q in (rw p (rw (s .0)), s .1)
     go (suc (suc m)) mid p l q = absurd (omega arith)
 
@@ -130,29 +131,19 @@ module _ {S A B : Type 0} (identifier : S → ℕ) (content : S → ℕ → Read
         → Gives (slot identifier content s >>= f) os c x
     slot-there p h g =
         behind e (sized (content s) >>= λ a. f (some a))
-        (rw (at-opening e .looks) (rw p (rw (eq-eqb _ _ h) (rw (at-opening e .heads p) (size (field lengthWidth (window os k))))))) g
+        (rw (at-opening e .looks) (rw p (rw (eq-eqb _ _ h) (rw (at-opening e .heads p) size)))) g
       where
-        last : (y : Answer A) → then (then y (λ a. got (some a))) f ≡ then y (λ a. f (some a))
-        last (got a rest) = refl
-        last (refused n) = refl
+        y : Answer ℕ
+        y = field lengthWidth (window os k)
 
-        size : (y : Answer ℕ) → then (then (then (then y (λ n. got (headed (o .value) n))) (λ h. content s (h .size))) (λ a. got (some a))) f
+        size : then (then (then (then y (λ n. got (headed (o .value) n))) (λ h. content s (h .size))) (λ a. got (some a))) f
             ≡ then (then y (content s)) (λ a. f (some a))
-        size (got n rest) = last (content s n rest)
-        size (refused n) = refl
+        size = ap (λ (z : Answer A). then (then z (λ a. got (some a))) f) (then-then y _ _) ∙ then-then (then y (content s)) _ _
 
 -- a content's value made into another in one step or in two
 pub sized-made : {A B C : Type 0} (r : ℕ → Reader A) (f : A → B) (g : B → C) (bs : Bits)
     → (sized (λ n. r n >>= λ a. got (f a)) >>= λ b. got (g b)) bs ≡ sized (λ n. r n >>= λ a. got (g (f a))) bs
-sized-made {A} r f g bs = size (field lengthWidth bs)
-  where
-    last : (y : Answer A) → then (then y (λ a. got (f a))) (λ b. got (g b)) ≡ then y (λ a. got (g (f a)))
-    last (got a rest) = refl
-    last (refused n) = refl
-
-    size : (y : Answer ℕ) → then (then y (λ n. r n >>= λ a. got (f a))) (λ b. got (g b)) ≡ then y (λ n. r n >>= λ a. got (g (f a)))
-    size (got n rest) = last (r n rest)
-    size (refused n) = refl
+sized-made r f g bs = then-then (field lengthWidth bs) _ _ ∙ then-same (field lengthWidth bs) (λ n rest. then-then (r n rest) _ _)
 
 -- ## unlisted elements that are skipped
 
@@ -174,11 +165,7 @@ module _ (listed : ℕ → Bool) where
   tally n = pieces listed >>= λ ps. got (n + length ps)
 
   pub tally-start : (bs : Bits) → (pieces listed >>= λ ps. got (length ps)) bs ≡ tally 0 bs
-  tally-start bs = go (pieces listed bs)
-    where
-      go : (y : Answer (List Piece)) → then y (λ ps. got (length ps)) ≡ then y (λ ps. got (0 + length ps))
-      go (got ps rest) = let h : 0 + length ps ≡ length ps = omega arith in rw h
-      go (refused m) = refl
+  tally-start bs = then-same (pieces listed bs) (λ ps rest. let h : 0 + length ps ≡ length ps = omega arith in rw h)
 
   module _ (n : ℕ) {os : List ℕ} {c : Cursor} where
     pub tally-outside : {m : ℕ} → Gives opening os c (halted m) → Gives (tally n) os c (halted m)
@@ -248,9 +235,13 @@ module _ {S A : Type 0} (identifier : S → ℕ) (content : S → ℕ → Reader
 
 -- ## generic slots, one at a turn
 
+-- a slot, whose value the code holds as `out` makes it
+pub held-tail : {A : Type 0} (s : Slot) (out : Option Element → A) → Tail (slot identifierOf content s >>= λ o. got (out o))
+held-tail s out = bind-tail (slot identifierOf content s) _ (slot-tail identifierOf content content-local s) (λ o. search local·rules)
+
 pub generic-slot-tail : (r : Row) → Tail (genericSlot r)
 unfolding genericSlot
-generic-slot-tail r = bind-tail (slot identifierOf content (genericRow r)) _ (slot-tail identifierOf content content-local (genericRow r)) (λ o. search local·rules)
+generic-slot-tail r = held-tail (genericRow r) (genericIn r)
 
 module _ (table : List Slot) (b : Bool) where
   -- the slots that are left, where n elements were skipped before them
@@ -277,25 +268,11 @@ module _ (table : List Slot) (b : Bool) where
 
     turn-is : (bs : Bits) → resumed n (r ∷ rs) bs ≡ turn bs
     unfolding generics
-    turn-is bs = first (skipping table b bs)
-      where
-        last : (m : ℕ) (g : Generic) (y : Answer (Counted (List Generic)))
-            → then (then y (λ x. got (counted (m + x .skipped) (g ∷ x .value)))) (λ x. got (counted (n + x .skipped) (x .value)))
-            ≡ then y (λ x. got (counted (n + (m + x .skipped)) (g ∷ x .value)))
-        last m g (got x rest) = refl
-        last m g (refused k) = refl
-
-        next : (m : ℕ) (y : Answer Generic)
-            → then (then y (λ g. generics table rs b >>= λ x. got (counted (m + x .skipped) (g ∷ x .value)))) (λ x. got (counted (n + x .skipped) (x .value)))
-            ≡ then y (others m)
-        next m (got g rest) = last m g (generics table rs b rest)
-        next m (refused k) = refl
-
-        first : (y : Answer ℕ)
-            → then (then y (λ m. genericSlot r >>= λ g. generics table rs b >>= λ x. got (counted (m + x .skipped) (g ∷ x .value)))) (λ x. got (counted (n + x .skipped) (x .value)))
-            ≡ then y (λ m. genericSlot r >>= others m)
-        first (got m rest) = next m (genericSlot r rest)
-        first (refused k) = refl
+    turn-is bs =
+        then-then (skipping table b bs) _ _
+        ∙ then-same (skipping table b bs) (λ m mid.
+        then-then (genericSlot r mid) _ _
+        ∙ then-same (genericSlot r mid) (λ g rest. then-then (generics table rs b rest) _ _))
 
   module _ (n : ℕ) {os : List ℕ} {c : Cursor} where
     pub resumed-end : {rs : List Row} → rs ≡ [] → Gives (resumed n rs) os c (placed (counted n []) c)

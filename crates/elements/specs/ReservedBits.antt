@@ -1,7 +1,7 @@
 -- The two reserved bits are not alike.
 use Prim.Native.Nat.{suc}
 use native.Mathlib.Omega.{arith}
-use mathlib.Core.Path.{_≡_, refl}
+use mathlib.Core.Path.{_≡_}
 use mathlib.Core.Bool.{Bool, true, false}
 use mathlib.Core.List.{_∷_}
 use lib.ListN.{length}

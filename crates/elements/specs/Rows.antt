@@ -1,21 +1,21 @@
 -- A message's table as the code holds it, and its generic slots as the code reads them.
 use Prim.Native.Nat.{ℕ, zero, suc, _+_, _-_, min}
-use mathlib.Core.Bool.{Bool, true, cond}
-use mathlib.Core.Option.{Option, none, some}
+use mathlib.Core.Bool.{Bool, true, false, cond}
+use mathlib.Core.Option.{Option}
 use mathlib.Core.List.{List, [], _∷_, map}
-use lib.ListN.{length, take, drop}
+use lib.ListN.{take, drop, replicate}
+use lib.Seq.{sets}
 use lib.Dec.{eqb}
 use Rattle.bits.specs.Reader.{Reader, got, _>>=_, field}
 use Rattle.elements.specs.Table.{lengthWidth, Counted, counted, closing, isListed, skip, slot}
 use Rattle.elements.specs.Generics.{type3, type4}
 use Rattle.elements.specs.Kinds.{Kind, genericType3, genericType4, ofLocationDemand, ofLocationAccept, ofDownlinks, Slot, row, Element, heldElement, identifierOf, content}
-use Rattle.elements.specs.declared.typed_pdu_fields.Type3FieldGeneric.{Type3FieldGeneric}
-use Rattle.elements.specs.declared.typed_pdu_fields.Type4FieldGeneric.{Type4FieldGeneric}
 use Rattle.elements.specs.declared.typed_pdu_fields.OptionalType3.{OptionalType3}
 use Rattle.elements.specs.declared.typed_pdu_fields.OptionalType4.{OptionalType4}
 use Rattle.elements.specs.declared.typed_pdu_fields.Generic.{Generic}
 use Rattle.elements.specs.declared.typed_pdu_fields.Row.{Row}
 use Rattle.elements.specs.declared.typed_pdu_fields.Table.{Table}
+use Rattle.elements.specs.declared.typed_pdu_fields.Slots.{Slots}
 
 -- the kind that a row names by its number
 abbrev pub kindOf : ℕ → Kind
@@ -85,3 +85,25 @@ genericSlot r = slot identifierOf content (genericRow r) >>= λ o. got (genericI
 unfoldable pub generics : List Slot → List Row → Bool → Reader (Counted (List Generic))
 generics table [] b = got (counted 0 [])
 generics table (r ∷ rs) b = skipping table b >>= λ n. genericSlot r >>= λ g. generics table rs b >>= λ x. got (counted (n + x .skipped) (g ∷ x .value))
+
+-- ## a part of a table
+
+abbrev pub noGeneric : Generic
+noGeneric = record { present = false; len = 0; elems = 0; «data» = 0 }
+
+-- no slot read yet
+abbrev pub noGenerics : List Generic
+noGenerics = replicate 8 noGeneric
+
+-- the values put into the array from a place on
+abbrev pub slotsIn : List Generic → ℕ → Counted (List Generic) → Slots
+slotsIn before from x = record { skipped = x .skipped; generics = sets before from (x .value) }
+
+-- what is passed behind a part: unlisted elements, and at the table's end the closing M-bit
+abbrev pub behindPart : Bool → List Slot → Bool → Reader ℕ
+behindPart true table b = tableEnd table b
+behindPart false table b = skipping table b
+
+unfoldable pub part : List Slot → List Row → Bool → Bool → List Generic → ℕ → Reader Slots
+part table rs last b before from =
+    generics table rs b >>= λ x. behindPart last table b >>= λ n. got (slotsIn before from (counted (x .skipped + n) (x .value)))

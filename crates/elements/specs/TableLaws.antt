@@ -333,7 +333,7 @@ module _ (stop : ℕ → Bool) where
 
 -- ## the two readings of a table
 
-module _ {S A : Type 0} (identifier : S → ℕ) (content : S → ℕ → Reader A) where
+module _ {S : Type 0} (identifier : S → ℕ) where
   pub listed-first : (s : S) (ss : List S) → isListed identifier (s ∷ ss) (identifier s) ≡ true
   unfolding isListed
   listed-first s ss = rw (eq-eqb (identifier s) (identifier s) refl)
@@ -342,6 +342,7 @@ module _ {S A : Type 0} (identifier : S → ℕ) (content : S → ℕ → Reader
   unfolding isListed
   listed-later s ss i h = rw h (or-true (eqb i (identifier s)))
 
+module _ {S A : Type 0} (identifier : S → ℕ) (content : S → ℕ → Reader A) where
   -- the strict reading skips nothing
   pub scan-strict : (listed : ℕ → Bool) (ss : List S) (bs : Bits) {x : Counted (List (Option A))} {rest : Bits} → scan identifier content listed false ss bs ≡ got x rest → x .skipped ≡ 0
   unfolding scan

@@ -11,8 +11,8 @@ use Rattle.bits.specs.declared.bitbuffer.Moved.{Moved}
 use Rattle.bits.specs.declared.bitbuffer.Moved.the-variants as M
 use lib.Seq.{sets}
 use Rattle.elements.specs.Table.{Counted}
-use Rattle.elements.specs.Answers.{genericAnswer, scanAnswer}
-use Rattle.elements.specs.GroupAnswers.{uplinksAnswer, downlinksAnswer, locationDemandAnswer, locationAcceptAnswer}
+use Rattle.elements.specs.Answers.{genericAnswer, slotsAnswer, scanAnswer}
+use Rattle.elements.specs.GroupAnswers.{uplinksAnswer, downlinksAnswer, locationDemandAnswer, locationDemandSlotAnswer, locationAcceptAnswer, locationAcceptSlotAnswer}
 use Rattle.elements.specs.declared.typed_pdu_fields.Generic.{Generic}
 use Rattle.elements.specs.declared.typed_pdu_fields.ScanRead.{ScanRead}
 
@@ -66,6 +66,9 @@ module _ {A X : Type 0} {f : Placed A → X} {verdict : X → Moved} {value : X 
 pub generic-beside : Beside genericAnswer (λ r. r .verdict) (λ r. r .element)
 generic-beside = record { to = λ g k. refl; is = λ g k. refl; not = λ n. refl }
 
+pub slots-beside : Beside slotsAnswer (λ r. r .verdict) (λ r. r .slots)
+slots-beside = record { to = λ s k. refl; is = λ s k. refl; not = λ n. refl }
+
 pub uplinks-beside : Beside uplinksAnswer (λ r. r .verdict) (λ r. r .list)
 uplinks-beside = record { to = λ l k. refl; is = λ l k. refl; not = λ n. refl }
 
@@ -75,8 +78,14 @@ downlinks-beside = record { to = λ l k. refl; is = λ l k. refl; not = λ n. re
 pub location-demand-beside : Beside locationDemandAnswer (λ r. r .verdict) (λ r. r .location)
 location-demand-beside = record { to = λ d k. refl; is = λ d k. refl; not = λ n. refl }
 
+pub location-demand-slot-beside : Beside locationDemandSlotAnswer (λ r. r .verdict) (λ r. r .location)
+location-demand-slot-beside = record { to = λ d k. refl; is = λ d k. refl; not = λ n. refl }
+
 pub location-accept-beside : Beside locationAcceptAnswer (λ r. r .verdict) (λ r. r .location)
 location-accept-beside = record { to = λ d k. refl; is = λ d k. refl; not = λ n. refl }
+
+pub location-accept-slot-beside : Beside locationAcceptSlotAnswer (λ r. r .verdict) (λ r. r .location)
+location-accept-slot-beside = record { to = λ d k. refl; is = λ d k. refl; not = λ n. refl }
 
 -- the scan's answer: the values stand in an array
 module _ (gs : List Generic) (i : ℕ) {r : Reader (Counted (List Generic))} {os : List ℕ} {c : Cursor} {y : ScanRead} (e : y ≡ scanAnswer gs i (at r os c)) where

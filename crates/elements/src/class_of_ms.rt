@@ -2,13 +2,15 @@
 ghost use mathlib.Core.Path.{_≡_};
 ghost use Prim.Native.Nat.{_^_, _<_};
 ghost use Rattle.bits.specs.Placed.{at, refusal};
-ghost use Rattle.elements.specs.ClassOfMs.{classOf, classWidths, noClass};
+ghost use Rattle.elements.specs.Numbers.{type2As};
+ghost use Rattle.elements.specs.ClassOfMs.{classOf, classWidths, noClass, classOption, classOfMs};
 ghost use Rattle.elements.specs.ClassOfMsLaws.{split};
-ghost use Rattle.elements.specs.GroupAnswers.{type2Class, asClass};
+ghost use Rattle.elements.specs.GroupAnswers.{asClass};
 use bits::bitbuffer::Cursor;
 use bits::bitbuffer::Field8;
 use bits::bitbuffer::Field32;
 
+#[repr(C)]
 pub struct ClassOfMs {
     pub freq_simplex_duplex: u8,
     pub multislot_phase_mod: u8,
@@ -34,6 +36,7 @@ pub struct ClassOfMs {
     pub d8psk: u8,
 }
 
+#[repr(C)]
 pub struct OptionalClassOfMs {
     pub present: bool,
     pub value: ClassOfMs,
@@ -118,7 +121,7 @@ pub fn no_class_of_ms() -> ClassOfMs
 
 // A type 2 element: P-bit, then the class of MS if it is 1.
 pub fn parse_type2_class_of_ms(c: Cursor, octets: &[u8]) -> ClassRead
-    ensures { λ r. ⌜ asClass r ≡ at type2Class (now (octets .entry)) c ⌝ }
+    ensures { λ r. ⌜ asClass r ≡ at (type2As classOption classOfMs) (now (octets .entry)) c ⌝ }
 {
     let f = c.read_u8(octets, 1);
     let Field8::Value(p, c1) = f else {

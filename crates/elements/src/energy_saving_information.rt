@@ -1,19 +1,22 @@
 // Energy saving information (EN 300 392-2, clause 16.10.10).
 ghost use mathlib.Core.Path.{_≡_};
 ghost use Rattle.bits.specs.Placed.{at, refusal};
-ghost use Rattle.elements.specs.EnergySaving.{energySaving, noSaving};
-ghost use Rattle.elements.specs.GroupAnswers.{asSaving, type2Saving, asOptionalSaving};
+ghost use Rattle.elements.specs.Numbers.{type2As};
+ghost use Rattle.elements.specs.EnergySaving.{energySaving, noSaving, savingOption};
+ghost use Rattle.elements.specs.GroupAnswers.{asSaving, asOptionalSaving};
 use crate::energy_saving_mode::STAY_ALIVE;
 use crate::typed_pdu_fields::OptionalU8;
 use bits::bitbuffer::Cursor;
 use bits::bitbuffer::Field8;
 
+#[repr(C)]
 pub struct EnergySavingInformation {
     pub energy_saving_mode: u8,
     pub frame_number: OptionalU8,
     pub multiframe_number: OptionalU8,
 }
 
+#[repr(C)]
 pub struct OptionalEnergySavingInformation {
     pub present: bool,
     pub value: EnergySavingInformation,
@@ -107,7 +110,7 @@ impl EnergySavingInformation {
 
 // A type 2 element: P-bit, then the energy saving information if it is 1.
 pub fn parse_type2_energy_saving(c: Cursor, octets: &[u8]) -> OptionalSavingRead
-    ensures { λ r. ⌜ asOptionalSaving r ≡ at type2Saving (now (octets .entry)) c ⌝ }
+    ensures { λ r. ⌜ asOptionalSaving r ≡ at (type2As savingOption energySaving) (now (octets .entry)) c ⌝ }
 {
     let f = c.read_u8(octets, 1);
     let Field8::Value(p, c1) = f else {

@@ -6,6 +6,7 @@ ghost use Rattle.elements.specs.GroupAnswers.{optionalAttachment, asAtta
 use bits::bitbuffer::Cursor;
 use bits::bitbuffer::Field8;
 
+#[repr(C)]
 pub struct GroupIdentityAttachment {
     pub group_identity_attachment_lifetime: u8,
     pub class_of_usage: u8,

@@ -4,9 +4,9 @@ ghost use mathlib.Core.Option.{none};
 ghost use Prim.Native.Nat.{_≤_};
 ghost use Rattle.bits.specs.Placed.{at, refusal};
 ghost use Rattle.elements.specs.Groups.{downlink};
-ghost use Rattle.elements.specs.Lists.{downlinks, listOf, list};
+ghost use Rattle.elements.specs.Lists.{downlinks, listOf, groupsRead, list};
 ghost use Rattle.elements.specs.Rows.{sized};
-ghost use Rattle.elements.specs.GroupAnswers.{asDownlink, downlinksAnswer, groupsRead, downlinksSlot};
+ghost use Rattle.elements.specs.GroupAnswers.{asDownlink, downlinksAnswer, downlinksSlot};
 use crate::group_address::AddressRead;
 use crate::group_address::read_downlink_address;
 use crate::group_identity_attachment::AttachmentRead;
@@ -24,6 +24,7 @@ use bits::pdu_parse_error::INCONSISTENT_LENGTH;
 use bits::pdu_parse_error::TYPE4_UNDERFLOW;
 
 // Flat and without padding, as the uplink group.
+#[repr(C)]
 pub struct GroupIdentityDownlink {
     pub gssi: u32,
     pub address_extension: u32,
@@ -38,6 +39,7 @@ pub struct GroupIdentityDownlink {
 }
 
 // A list of groups that may be absent: those up to the count are there, the others hold zero.
+#[repr(C)]
 pub struct OptionalDownlinks {
     pub present: bool,
     pub count: usize,

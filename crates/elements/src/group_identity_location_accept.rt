@@ -18,11 +18,13 @@ use bits::bitbuffer::Field8;
 use bits::bitbuffer::Moved;
 use bits::pdu_parse_error::INCONSISTENT_LENGTH;
 
+#[repr(C)]
 pub struct GroupIdentityLocationAccept {
     pub group_identity_accept_reject: u8,
     pub group_identity_downlink: OptionalDownlinks,
 }
 
+#[repr(C)]
 pub struct OptionalLocationAccept {
     pub present: bool,
     pub value: GroupIdentityLocationAccept,

@@ -19,11 +19,13 @@ use bits::bitbuffer::Moved;
 use bits::pdu_parse_error::INCONSISTENT_LENGTH;
 use bits::pdu_parse_error::INVALID_VALUE;
 
+#[repr(C)]
 pub struct GroupIdentityLocationDemand {
     pub group_identity_attach_detach_mode: u8,
     pub group_identity_uplink: OptionalUplinks,
 }
 
+#[repr(C)]
 pub struct OptionalLocationDemand {
     pub present: bool,
     pub value: GroupIdentityLocationDemand,

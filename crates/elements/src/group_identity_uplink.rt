@@ -4,9 +4,9 @@ ghost use mathlib.Core.Option.{none};
 ghost use Prim.Native.Nat.{_≤_};
 ghost use Rattle.bits.specs.Placed.{at, refusal};
 ghost use Rattle.elements.specs.Groups.{uplink};
-ghost use Rattle.elements.specs.Lists.{uplinks, listOf, list};
+ghost use Rattle.elements.specs.Lists.{uplinks, listOf, groupsRead, list};
 ghost use Rattle.elements.specs.Rows.{sized};
-ghost use Rattle.elements.specs.GroupAnswers.{asUplink, uplinksAnswer, groupsRead};
+ghost use Rattle.elements.specs.GroupAnswers.{asUplink, uplinksAnswer};
 use crate::group_address::AddressRead;
 use crate::group_address::read_uplink_address;
 use crate::typed_pdu_fields::OptionalU8Read;
@@ -19,6 +19,7 @@ use bits::pdu_parse_error::INCONSISTENT_LENGTH;
 use bits::pdu_parse_error::TYPE4_UNDERFLOW;
 
 // Flat and without padding, the widest fields first: a list has 63 of them, and is cleared as one block.
+#[repr(C)]
 pub struct GroupIdentityUplink {
     pub gssi: u32,
     pub address_extension: u32,
@@ -33,6 +34,7 @@ pub struct GroupIdentityUplink {
 }
 
 // A list of groups that may be absent: those up to the count are there, the others hold zero.
+#[repr(C)]
 pub struct OptionalUplinks {
     pub present: bool,
     pub count: usize,

@@ -5,11 +5,12 @@ ghost use mathlib.Core.Bool.{true};
 ghost use Prim.Native.Nat.{min};
 ghost use Rattle.bits.specs.Reader.{word};
 ghost use Rattle.bits.specs.Placed.{at, asField, asMoved, refusal};
+ghost use Rattle.elements.specs.Numbers.{u8Of, u64Of, type2As};
 ghost use Rattle.elements.specs.Generics.{dataWidth, kept};
 ghost use Rattle.elements.specs.Table.{closing, isListed};
 ghost use Rattle.elements.specs.Kinds.{identifierOf};
-ghost use Rattle.elements.specs.Rows.{rowsOf, slotsFrom, skipping, tableEnd, generics, sized, genericType3At, genericType4At, genericSlot, type3From, type4From};
-ghost use Rattle.elements.specs.Answers.{optionalU8, optionalU32, optionalU64, type2U8, type2U64, opening, asOptionalU8, asOptionalU32, asOptionalU64, asSkipped, genericAnswer, scanAnswer};
+ghost use Rattle.elements.specs.Rows.{rowsOf, slotsFrom, skipping, tableEnd, behindPart, part, sized, genericType3At, genericType4At, genericSlot, type3From, type4From};
+ghost use Rattle.elements.specs.Answers.{optionalU8, optionalU32, optionalU64, opening, asOptionalU8, asOptionalU32, asOptionalU64, asSkipped, genericAnswer, slotsAnswer};
 use bits::bitbuffer::Cursor;
 use bits::bitbuffer::Field;
 use bits::bitbuffer::Field8;
@@ -19,6 +20,7 @@ use bits::pdu_parse_error::INVALID_TRAILING_MBIT_VALUE;
 use bits::pdu_parse_error::TYPE4_UNDERFLOW;
 
 // What may be absent is presence and value; what is absent holds zero.
+#[repr(C)]
 pub struct OptionalU8 {
     pub present: bool,
     pub value: u8,
@@ -29,10 +31,16 @@ pub struct OptionalU32 {
     pub value: u32,
 }
 
+#[repr(C)]
 pub struct OptionalU64 {
     pub present: bool,
     pub value: u64,
 }
+
+pub const NO_NUMBER: OptionalU64 = OptionalU64 {
+    present: false,
+    value: 0,
+};
 
 pub enum OptionalU8Read {
     Read(OptionalU8, Cursor),
@@ -163,7 +171,7 @@ pub fn read_optional_u64(c: Cursor, octets: &[u8], wanted: bool, width: usize) -
 
 // A type 2 element: P-bit, then the value if it is 1.
 pub fn parse_type2_generic(c: Cursor, octets: &[u8], width: usize) -> OptionalU64Read
-    ensures { λ r. ⌜ asOptionalU64 r ≡ at (type2U64 (word 64 width)) (now (octets .entry)) c ⌝ }
+    ensures { λ r. ⌜ asOptionalU64 r ≡ at (type2As u64Of (word 64 width)) (now (octets .entry)) c ⌝ }
 {
     let f = c.read_u8(octets, 1);
     let Field8::Value(p, c1) = f else {
@@ -174,7 +182,7 @@ pub fn parse_type2_generic(c: Cursor, octets: &[u8], width: usize) -> OptionalU6
 
 // The same for at most 8 bits.
 pub fn parse_type2_u8(c: Cursor, octets: &[u8], width: usize) -> OptionalU8Read
-    ensures { λ r. ⌜ asOptionalU8 r ≡ at (type2U8 (word 8 width)) (now (octets .entry)) c ⌝ }
+    ensures { λ r. ⌜ asOptionalU8 r ≡ at (type2As u8Of (word 8 width)) (now (octets .entry)) c ⌝ }
 {
     let f = c.read_u8(octets, 1);
     let Field8::Value(p, c1) = f else {
@@ -205,34 +213,38 @@ pub fn read_closing_mbit(c: Cursor, octets: &[u8]) -> Moved
 }
 
 // A type 3 element: its declared length, and its first 64 bits as a number.
+#[repr(C)]
 pub struct Type3FieldGeneric {
     pub len: usize,
     pub data: u64,
 }
 
+#[repr(C)]
 pub struct OptionalType3 {
     pub present: bool,
     pub value: Type3FieldGeneric,
 }
 
 // A type 4 element: its declared length less the 6 bits of its number of entries, that number, and its first 64 bits.
+#[repr(C)]
 pub struct Type4FieldGeneric {
     pub len: usize,
     pub elems: usize,
     pub data: u64,
 }
 
+#[repr(C)]
 pub struct OptionalType4 {
     pub present: bool,
     pub value: Type4FieldGeneric,
 }
 
-// A generic element of either type, while a table is read.
+// A generic element of either type, while a table is read: small, since a table's slots are copied as one block.
 pub struct Generic {
-    pub present: bool,
-    pub len: usize,
-    pub elems: usize,
     pub data: u64,
+    pub len: u32,
+    pub elems: u8,
+    pub present: bool,
 }
 
 pub struct GenericRead {
@@ -256,7 +268,7 @@ pub fn type3_of(g: Generic) -> OptionalType3
     OptionalType3 {
         present: g.present,
         value: Type3FieldGeneric {
-            len: g.len,
+            len: g.len as usize,
             data: g.data,
         },
     }
@@ -268,8 +280,8 @@ pub fn type4_of(g: Generic) -> OptionalType4
     OptionalType4 {
         present: g.present,
         value: Type4FieldGeneric {
-            len: g.len,
-            elems: g.elems,
+            len: g.len as usize,
+            elems: g.elems as usize,
             data: g.data,
         },
     }
@@ -301,15 +313,14 @@ fn read_kept(c: Cursor, octets: &[u8], n: usize) -> Field
 pub fn parse_type3_generic(c: Cursor, octets: &[u8]) -> GenericRead
     ensures { λ r. ⌜ r ≡ genericAnswer (at (sized genericType3At) (now (octets .entry)) c) ⌝ }
 {
-    let f = c.read(octets, 11);
-    let Field::Value(len, c1) = f else {
+    let f = c.read_u32(octets, 11);
+    let Field32::Value(len, c1) = f else {
         return GenericRead {
             verdict: Moved::Refused(f.refusal()),
             element: ABSENT,
         };
     };
-    let n = len as usize;
-    let d = read_kept(c1, octets, n);
+    let d = read_kept(c1, octets, len as usize);
     let Field::Value(data, c2) = d else {
         return GenericRead {
             verdict: Moved::Refused(d.refusal()),
@@ -320,7 +331,7 @@ pub fn parse_type3_generic(c: Cursor, octets: &[u8]) -> GenericRead
         verdict: Moved::To(c2),
         element: Generic {
             present: true,
-            len: n,
+            len: len,
             elems: 0,
             data: data,
         },
@@ -331,15 +342,15 @@ pub fn parse_type3_generic(c: Cursor, octets: &[u8]) -> GenericRead
 pub fn parse_type4_generic(c: Cursor, octets: &[u8]) -> GenericRead
     ensures { λ r. ⌜ r ≡ genericAnswer (at (sized genericType4At) (now (octets .entry)) c) ⌝ }
 {
-    let f = c.read(octets, 11);
-    let Field::Value(len, c1) = f else {
+    let f = c.read_u32(octets, 11);
+    let Field32::Value(len, c1) = f else {
         return GenericRead {
             verdict: Moved::Refused(f.refusal()),
             element: ABSENT,
         };
     };
-    let k = c1.read(octets, 6);
-    let Field::Value(elems, c2) = k else {
+    let k = c1.read_u8(octets, 6);
+    let Field8::Value(elems, c2) = k else {
         return GenericRead {
             verdict: Moved::Refused(k.refusal()),
             element: ABSENT,
@@ -351,8 +362,8 @@ pub fn parse_type4_generic(c: Cursor, octets: &[u8]) -> GenericRead
             element: ABSENT,
         };
     }
-    let n = len as usize - 6;
-    let d = read_kept(c2, octets, n);
+    let n = len - 6;
+    let d = read_kept(c2, octets, n as usize);
     let Field::Value(data, c3) = d else {
         return GenericRead {
             verdict: Moved::Refused(d.refusal()),
@@ -364,7 +375,7 @@ pub fn parse_type4_generic(c: Cursor, octets: &[u8]) -> GenericRead
         element: Generic {
             present: true,
             len: n,
-            elems: elems as usize,
+            elems: elems,
             data: data,
         },
     }
@@ -437,7 +448,7 @@ impl Skipped {
 }
 
 // The unlisted elements that stand here, each passed whole.
-pub fn skip_unlisted(c: Cursor, octets: &[u8], table: Table) -> Skipped
+fn skip_unlisted(c: Cursor, octets: &[u8], table: Table) -> Skipped
     ensures { λ r. ⌜ asSkipped r ≡ at (skipping (rowsOf table) true) (now (octets .entry)) c ⌝ }
 {
     let mut place = c;
@@ -477,7 +488,7 @@ pub fn skip_if(c: Cursor, octets: &[u8], table: Table, wanted: bool) -> Skipped
 }
 
 // One slot that holds a generic element.
-pub fn read_generic_slot(c: Cursor, octets: &[u8], row: Row) -> GenericRead
+fn read_generic_slot(c: Cursor, octets: &[u8], row: Row) -> GenericRead
     ensures { λ r. ⌜ r ≡ genericAnswer (at (genericSlot row) (now (octets .entry)) c) ⌝ }
 {
     let l = peek_type34_mbit_and_id(c, octets);
@@ -517,17 +528,51 @@ const NO_SLOTS: Slots = Slots {
     generics: [ABSENT; 8],
 };
 
-// The slots from `from` up to `to` of a table, which hold generic elements, put beside those read before.
-pub fn scan(
+// The end of a table: unlisted elements where they are skipped, and the closing M-bit.
+fn read_table_end(c: Cursor, octets: &[u8], table: Table, wanted: bool) -> Skipped
+    ensures { λ r. ⌜ asSkipped r ≡ at (tableEnd (rowsOf table) wanted) (now (octets .entry)) c ⌝ }
+{
+    if wanted {
+        let s = skip_unlisted(c, octets, table);
+        let Skipped::Count(n, c1) = s else {
+            return s;
+        };
+        let m = read_closing_mbit(c1, octets);
+        let Moved::To(c2) = m else {
+            return Skipped::Refused(m.refusal());
+        };
+        return Skipped::Count(n, c2);
+    }
+    let m = read_closing_mbit(c, octets);
+    let Moved::To(c1) = m else {
+        return Skipped::Refused(m.refusal());
+    };
+    Skipped::Count(0, c1)
+}
+
+// What is passed behind a part of a table: unlisted elements where they are skipped, and behind the last part the closing M-bit.
+fn read_behind(c: Cursor, octets: &[u8], table: Table, last: bool, wanted: bool) -> Skipped
+    ensures { λ r. ⌜ asSkipped r ≡ at (behindPart last (rowsOf table) wanted) (now (octets .entry)) c ⌝ }
+{
+    if last {
+        return read_table_end(c, octets, table, wanted);
+    }
+    skip_if(c, octets, table, wanted)
+}
+
+// A part of a table: its slots from `from` up to `to`, which hold generic elements, put beside those read before; and what is
+// passed behind them.
+pub fn scan_part(
     c: Cursor,
     octets: &[u8],
     table: Table,
     from: usize,
     to: usize,
+    last: bool,
     wanted: bool,
     before: [Generic; 8],
 ) -> ScanRead
-    ensures { λ r. ⌜ r ≡ scanAnswer before from (at (generics (rowsOf table) (slotsFrom table from to) wanted) (now (octets .entry)) c) ⌝ }
+    ensures { λ r. ⌜ r ≡ slotsAnswer (at (part (rowsOf table) (slotsFrom table from to) last wanted before from) (now (octets .entry)) c) ⌝ }
 {
     let mut generics = before;
     let mut place = c;
@@ -557,26 +602,18 @@ pub fn scan(
         place = c2;
         i += 1;
     }
+    let b = read_behind(place, octets, table, last, wanted);
+    let Skipped::Count(k, c3) = b else {
+        return ScanRead {
+            verdict: Moved::Refused(b.refusal()),
+            slots: NO_SLOTS,
+        };
+    };
     ScanRead {
-        verdict: Moved::To(place),
+        verdict: Moved::To(c3),
         slots: Slots {
-            skipped: n,
+            skipped: n + k,
             generics: generics,
         },
     }
-}
-
-// The end of a table: unlisted elements where they are skipped, and the closing M-bit.
-pub fn read_table_end(c: Cursor, octets: &[u8], table: Table, wanted: bool) -> Skipped
-    ensures { λ r. ⌜ asSkipped r ≡ at (tableEnd (rowsOf table) wanted) (now (octets .entry)) c ⌝ }
-{
-    let s = skip_if(c, octets, table, wanted);
-    let Skipped::Count(n, c1) = s else {
-        return s;
-    };
-    let m = read_closing_mbit(c1, octets);
-    let Moved::To(c2) = m else {
-        return Skipped::Refused(m.refusal());
-    };
-    Skipped::Count(n, c2)
 }

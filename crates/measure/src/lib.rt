@@ -1,11 +1,26 @@
-// For benchmarks: one field read, and one field written.
+// For benchmarks: one field read, one field written, and each of the messages read.
 ghost use mathlib.Core.Path.{_≡_};
 ghost use Rattle.bits.specs.Reader.{word};
 ghost use Rattle.bits.specs.Placed.{at as atCursor, refusal};
 ghost use Rattle.bits.specs.Written.{writeField};
-ghost use Rattle.measure.specs.Measured.{valueOrRefusal};
+ghost use Rattle.messages.specs.Head.{uLocationUpdateDemand, dLocationUpdateAccept, dAttachDetachGroupIdentity};
+ghost use Rattle.messages.specs.Calls.{reading};
+ghost use Rattle.measure.specs.Measured.{valueOrRefusal, measuredDemand, measuredAccept, measuredAttachDetach};
 use bits::bitbuffer::Cursor;
 use bits::bitbuffer::Field;
+use bits::pdu_parse_error::BAD_CALL;
+use elements::typed_pdu_fields::Skipped;
+use messages::ACCEPT;
+use messages::ATTACH_DETACH;
+use messages::DEMAND;
+use messages::SKIPPING;
+use messages::d_attach_detach_group_identity::DAttachDetachGroupIdentity;
+use messages::d_attach_detach_group_identity::no_attach_detach;
+use messages::d_location_update_accept::DLocationUpdateAccept;
+use messages::d_location_update_accept::no_accept;
+use messages::is_good_call;
+use messages::u_location_update_demand::ULocationUpdateDemand;
+use messages::u_location_update_demand::no_demand;
 
 // The value, or the refusal's number.
 #[no_mangle]
@@ -35,4 +50,125 @@ pub extern "C" fn measure_write(
     let c = Cursor { at, end };
     let m = c.write(octets, value, width);
     m.refusal() as u64
+}
+
+// A message read: 64 times the bits consumed plus the refusal's number, and the record.
+#[repr(C)]
+pub struct MeasuredDemand {
+    pub answer: u64,
+    pub record: ULocationUpdateDemand,
+}
+
+#[repr(C)]
+pub struct MeasuredAccept {
+    pub answer: u64,
+    pub record: DLocationUpdateAccept,
+}
+
+#[repr(C)]
+pub struct MeasuredAttachDetach {
+    pub answer: u64,
+    pub record: DAttachDetachGroupIdentity,
+}
+
+#[no_mangle]
+pub extern "C" fn measure_demand(
+    octets: &[u8],
+    first: usize,
+    end: usize,
+    wanted: u64,
+) -> MeasuredDemand
+    ensures { λ r. ⌜ r ≡ measuredDemand (reading uLocationUpdateDemand wanted (now (octets .entry)) first end) ⌝ }
+{
+    if is_good_call(octets.len(), first, end, DEMAND, wanted) {
+        let c = Cursor {
+            at: first,
+            end: end,
+        };
+        let a = ULocationUpdateDemand::from_bitbuf(c, octets, wanted == SKIPPING);
+        let v = a.verdict;
+        let Skipped::Count(_, c1) = v else {
+            return MeasuredDemand {
+                answer: v.refusal() as u64,
+                record: no_demand(),
+            };
+        };
+        let own = a.record;
+        return MeasuredDemand {
+            answer: 64 * (c1.at - first) as u64,
+            record: own,
+        };
+    }
+    MeasuredDemand {
+        answer: BAD_CALL as u64,
+        record: no_demand(),
+    }
+}
+
+#[no_mangle]
+pub extern "C" fn measure_accept(
+    octets: &[u8],
+    first: usize,
+    end: usize,
+    wanted: u64,
+) -> MeasuredAccept
+    ensures { λ r. ⌜ r ≡ measuredAccept (reading dLocationUpdateAccept wanted (now (octets .entry)) first end) ⌝ }
+{
+    if is_good_call(octets.len(), first, end, ACCEPT, wanted) {
+        let c = Cursor {
+            at: first,
+            end: end,
+        };
+        let a = DLocationUpdateAccept::from_bitbuf(c, octets, wanted == SKIPPING);
+        let v = a.verdict;
+        let Skipped::Count(_, c1) = v else {
+            return MeasuredAccept {
+                answer: v.refusal() as u64,
+                record: no_accept(),
+            };
+        };
+        let own = a.record;
+        return MeasuredAccept {
+            answer: 64 * (c1.at - first) as u64,
+            record: own,
+        };
+    }
+    MeasuredAccept {
+        answer: BAD_CALL as u64,
+        record: no_accept(),
+    }
+}
+
+#[no_mangle]
+pub extern "C" fn measure_attach_detach(
+    octets: &[u8],
+    first: usize,
+    end: usize,
+    wanted: u64,
+) -> MeasuredAttachDetach
+    ensures { λ r. ⌜ r ≡ measuredAttachDetach (reading dAttachDetachGroupIdentity wanted (now (octets .entry)) first end) ⌝ }
+{
+    if is_good_call(octets.len(), first, end, ATTACH_DETACH, wanted) {
+        let c = Cursor {
+            at: first,
+            end: end,
+        };
+        let a = DAttachDetachGroupIdentity::from_bitbuf(c, octets, wanted == SKIPPING);
+        let v = a.verdict;
+        let Skipped::Count(_, c1) = v else {
+            return MeasuredAttachDetach {
+                answer: v.refusal() as u64,
+                record: no_attach_detach(),
+            };
+        };
+        let own = a.record;
+        return MeasuredAttachDetach {
+            answer: 64 * (c1.at - first) as u64,
+            record: own,
+        };
+    }
+    MeasuredAttachDetach {
+        answer: BAD_CALL as u64,
+        record: no_attach_detach(),
+    }
 }

@@ -1,7 +1,7 @@
 -- D-LOCATION UPDATE ACCEPT (EN 300 392-2, clause 16.9.2.7): how it is read and written, and what is asked of its record.
 use Prim.Native.Nat.{ℕ}
 use mathlib.Core.Path.{_≡_}
-use mathlib.Core.Bool.{Bool, true, false, not, _&&_, _||_}
+use mathlib.Core.Bool.{Bool, true, not, _&&_, _||_}
 use mathlib.Core.Option.{Option, none}
 use mathlib.Core.List.{List, [], _∷_, _++_}
 use lib.ListN.{getD}
@@ -20,7 +20,7 @@ use Rattle.elements.specs.declared.group_identity_location_accept.GroupIdentity
 use Rattle.elements.specs.declared.typed_pdu_fields.OptionalType3.{OptionalType3}
 use Rattle.elements.specs.declared.typed_pdu_fields.OptionalType4.{OptionalType4}
 use Rattle.elements.specs.declared.group_identity_location_accept.OptionalLocationAccept.{OptionalLocationAccept}
-use Rattle.messages.specs.Head.{pduTypeWidth, dLocationUpdateAccept, pduType, layoutOptions, anyOf, anyPresent, updateTypeWidth, ssiWidth, extensionWidth}
+use Rattle.messages.specs.Head.{pduTypeWidth, dLocationUpdateAccept, pduType, behindObit, layoutOptions, anyOf, anyPresent, updateTypeWidth, ssiWidth, extensionWidth}
 use Rattle.messages.specs.Questions.{Asked, lengthFits}
 use Rattle.messages.specs.declared.d_location_update_accept.AcceptOptions.{AcceptOptions}
 use Rattle.messages.specs.declared.d_location_update_accept.AcceptHead.{AcceptHead}
@@ -40,30 +40,25 @@ scchWidth = 6
 
 -- ## reading
 
+abbrev pub acceptOptionsOf : Option ℕ → Option ℕ → Option ℕ → Option EnergySavingInformation → Option ℕ → AcceptOptions
+acceptOptionsOf s e c m f = record {
+  ssi = u64Of s;
+  «address_extension» = u64Of e;
+  «subscriber_class» = u64Of c;
+  «energy_saving_information» = savingOption m;
+  «scch_information_and_distribution_on_18th_frame» = u64Of f;
+}
+
 unfoldable pub acceptOptions : Reader AcceptOptions
 acceptOptions =
     type2 (field ssiWidth) >>= λ s. type2 (field extensionWidth) >>= λ e. type2 (field subscriberClassWidth) >>= λ c. type2 energySaving >>= λ m.
-    type2 (field scchWidth) >>= λ f.
-    got (record {
-      ssi = u64Of s;
-      «address_extension» = u64Of e;
-      «subscriber_class» = u64Of c;
-      «energy_saving_information» = savingOption m;
-      «scch_information_and_distribution_on_18th_frame» = u64Of f;
-    })
+    type2 (field scchWidth) >>= λ f. got (acceptOptionsOf s e c m f)
 
 abbrev pub noAcceptOptions : AcceptOptions
-noAcceptOptions = record {
-  ssi = u64Of none;
-  «address_extension» = u64Of none;
-  «subscriber_class» = u64Of none;
-  «energy_saving_information» = savingOption none;
-  «scch_information_and_distribution_on_18th_frame» = u64Of none;
-}
+noAcceptOptions = acceptOptionsOf none none none none none
 
 abbrev pub acceptOptionsIf : Bool → Reader AcceptOptions
-acceptOptionsIf true bs = acceptOptions bs
-acceptOptionsIf false bs = got noAcceptOptions bs
+acceptOptionsIf = behindObit acceptOptions noAcceptOptions
 
 unfoldable pub acceptHead : Reader AcceptHead
 acceptHead =
@@ -126,14 +121,17 @@ acceptMore r =
     ∷ r .«scch_information_and_distribution_on_18th_frame» .present ∷ [])
     || anyPresent (acceptSlots r)
 
+-- the type 2 elements, before others
+abbrev pub acceptOptionsBits : DLocationUpdateAccept → Bits → Bits
+acceptOptionsBits r xs =
+    type2Bits (digits ssiWidth) (inU64 (r .ssi)) ++ (type2Bits (digits extensionWidth) (inU64 (r .«address_extension»))
+    ++ (type2Bits (digits subscriberClassWidth) (inU64 (r .«subscriber_class»)) ++ (type2Bits savingBits (savingIn r)
+    ++ (type2Bits (digits scchWidth) (inU64 (r .«scch_information_and_distribution_on_18th_frame»)) ++ xs))))
+
 unfoldable pub acceptBits : DLocationUpdateAccept → Bits
 acceptBits r =
     digits pduTypeWidth dLocationUpdateAccept ++ (digits updateTypeWidth (r .«location_update_accept_type»)
-    ++ announced (acceptMore r)
-    (type2Bits (digits ssiWidth) (inU64 (r .ssi)) ++ (type2Bits (digits extensionWidth) (inU64 (r .«address_extension»))
-    ++ (type2Bits (digits subscriberClassWidth) (inU64 (r .«subscriber_class»)) ++ (type2Bits savingBits (savingIn r)
-    ++ (type2Bits (digits scchWidth) (inU64 (r .«scch_information_and_distribution_on_18th_frame»))
-    ++ tableBits identifierOf contentBits acceptTable (acceptSlots r)))))))
+    ++ announced (acceptMore r) (acceptOptionsBits r (tableBits identifierOf contentBits acceptTable (acceptSlots r))))
 
 -- THE QUESTIONS
 unfoldable pub acceptAsked : DLocationUpdateAccept → Asked

@@ -1,5 +1,4 @@
 -- Laws of D-LOCATION UPDATE ACCEPT.
-use Prim.Native.Nat.{ℕ}
 use native.Mathlib.Omega.{arith}
 use mathlib.Core.Path.{_≡_, refl, ap, _∙_}
 use mathlib.Core.Bool.{Bool, true, false, cond, _&&_}
@@ -9,8 +8,8 @@ use lib.ListN.{getD}
 use lib.Dec.{eqb}
 use Rattle.bits.specs.Bits.{Bits, bit, digits}
 use Rattle.bits.specs.Reader.{got, field, optional, Local}
-use Rattle.bits.specs.ReaderLaws.{split-then, local·rules, follows·rules, got-local, Follows, field-passes, got-follows}
-use Rattle.elements.specs.Numbers.{held, isPresent, valueOr, optionAll, optionMap, inWidth, u64Of, inU64, flagWidth, type2, type2Bits, announced}
+use Rattle.bits.specs.ReaderLaws.{split-then, local·rules, follows·rules, Follows, field-passes}
+use Rattle.elements.specs.Numbers.{held, isPresent, valueOr, optionAll, optionMap, inWidth, inU64, flagWidth, type2, announced}
 use Rattle.elements.specs.NumbersLaws.{both, number-back, one-bit, type2-back, type2-number-back, held-option, same-held, same-map, same-self, same-normal, sameU64, sameU64-self}
 use Rattle.elements.specs.EnergySaving.{energySaving, savingBits, savingFits, aliveHasNone, othersHaveBoth, savingNormal, noSaving, savingOption}
 use Rattle.elements.specs.EnergySavingLaws.{saving-local, saving-passes, saving-back, saving-same, saving-normal-same, saving-own}
@@ -22,12 +21,12 @@ use Rattle.elements.specs.Kinds.{Element, identifierOf, content, contentBits, e
 use Rattle.elements.specs.declared.energy_saving_information.EnergySavingInformation.{EnergySavingInformation}
 use Rattle.elements.specs.declared.group_identity_location_accept.GroupIdentityLocationAccept.{GroupIdentityLocationAccept}
 use Rattle.messages.specs.Head.{pduTypeWidth, dLocationUpdateAccept, pduType, updateTypeWidth, passIf, passType2, layoutOptions, anyOf, anyPresent, ssiWidth, extensionWidth}
-use Rattle.messages.specs.HeadLaws.{type-local, type-passes, type-back, layout-options-local, type2-local, type2-follows, end-follows, if-follows, announced-back, both-false, none-of}
+use Rattle.messages.specs.HeadLaws.{type-local, type-passes, type-back, layout-options-local, type2-local, type2-follows, end-follows, behind-local, behind-follows, announced-back, both-false, none-held}
 use Rattle.messages.specs.QuestionsLaws.{six}
 use Rattle.messages.specs.Format.{message}
 use Rattle.messages.specs.FormatLaws.{format-back, format-own}
 use Rattle.messages.specs.SlotsLaws.{slotsNormal, SlotsRead, SlotsOwn, slot-own, type3-slot, type4-slot, location-accept-slot, type3-own, type4-own, location-accept-own}
-use Rattle.messages.specs.Accept.{subscriberClassWidth, energySavingWidth, scchWidth, acceptOptions, noAcceptOptions, acceptOptionsIf, acceptHead, acceptLayout, acceptTable, acceptOf, savingIn, acceptLocationIn, acceptSlots, acceptMore, acceptBits, acceptAsked, acceptNormal, SameAccept}
+use Rattle.messages.specs.Accept.{subscriberClassWidth, energySavingWidth, scchWidth, acceptOptionsOf, acceptOptions, noAcceptOptions, acceptOptionsIf, acceptHead, acceptLayout, acceptTable, acceptOf, savingIn, acceptLocationIn, acceptSlots, acceptMore, acceptOptionsBits, acceptBits, acceptAsked, acceptNormal, SameAccept}
 use Rattle.messages.specs.Calls.{ofAccept, acceptFormat}
 use Rattle.messages.specs.declared.d_location_update_accept.AcceptOptions.{AcceptOptions}
 use Rattle.messages.specs.declared.d_location_update_accept.AcceptHead.{AcceptHead}
@@ -38,8 +37,7 @@ use Rattle.messages.specs.declared.Record.{Record}
 
 pub accept-options-local : (b : Bool) → Local (acceptOptionsIf b)
 unfolding acceptOptions
-accept-options-local true = search (type2-local, local·rules, saving-local) depth 16
-accept-options-local false = got-local noAcceptOptions
+accept-options-local = behind-local acceptOptions noAcceptOptions (search (type2-local, local·rules, saving-local) depth 16)
 
 pub accept-head-local : Local acceptHead
 unfolding acceptHead
@@ -52,7 +50,7 @@ accept-layout-local = search (local·rules, layout-options-local) depth 16
 options-follow : (b : Bool)
     → Follows (acceptOptionsIf b) (passIf b (passType2 (ssiWidth ∷ extensionWidth ∷ subscriberClassWidth ∷ energySavingWidth ∷ scchWidth ∷ []))) (λ t. tt)
 unfolding acceptOptions
-options-follow = if-follows _ acceptOptionsIf (search (type2-follows, end-follows, field-passes, saving-passes) depth 16) (got-follows noAcceptOptions _)
+options-follow = behind-follows acceptOptions noAcceptOptions _ (search (type2-follows, end-follows, field-passes, saving-passes) depth 16)
 
 pub accept-follows : Follows acceptHead acceptLayout (λ h. eqb (h .obit) 1)
 unfolding acceptHead acceptLayout layoutOptions
@@ -121,32 +119,17 @@ well-back e h =
 
 -- ## reading back
 
-abbrev optionsOf : Option ℕ → Option ℕ → Option ℕ → Option EnergySavingInformation → Option ℕ → AcceptOptions
-optionsOf s e c m f = record {
-  ssi = u64Of s;
-  «address_extension» = u64Of e;
-  «subscriber_class» = u64Of c;
-  «energy_saving_information» = savingOption m;
-  «scch_information_and_distribution_on_18th_frame» = u64Of f;
-}
-
--- the type 2 elements of a record, and their bits before others
+-- the type 2 elements of a record
 abbrev optionsIn : DLocationUpdateAccept → AcceptOptions
 optionsIn r =
-    optionsOf (inU64 (r .ssi)) (inU64 (r .«address_extension»)) (inU64 (r .«subscriber_class»)) (optionMap savingNormal (savingIn r))
+    acceptOptionsOf (inU64 (r .ssi)) (inU64 (r .«address_extension»)) (inU64 (r .«subscriber_class»)) (optionMap savingNormal (savingIn r))
     (inU64 (r .«scch_information_and_distribution_on_18th_frame»))
 
-abbrev before : DLocationUpdateAccept → Bits → Bits
-before r xs =
-    type2Bits (digits ssiWidth) (inU64 (r .ssi)) ++ (type2Bits (digits extensionWidth) (inU64 (r .«address_extension»))
-    ++ (type2Bits (digits subscriberClassWidth) (inU64 (r .«subscriber_class»)) ++ (type2Bits savingBits (savingIn r)
-    ++ (type2Bits (digits scchWidth) (inU64 (r .«scch_information_and_distribution_on_18th_frame»)) ++ xs))))
-
 module _ (r : DLocationUpdateAccept) where
-  before-append : (xs rest : Bits) → before r xs ++ rest ≡ before r (xs ++ rest)
-  before-append xs rest = simp append-assoc
+  options-append : (xs rest : Bits) → acceptOptionsBits r xs ++ rest ≡ acceptOptionsBits r (xs ++ rest)
+  options-append xs rest = simp append-assoc
 
-  options-back : AcceptFits r → optionAll savingWell (savingIn r) ≡ true → (rest : Bits) → acceptOptions (before r rest) ≡ got (optionsIn r) rest
+  options-back : AcceptFits r → optionAll savingWell (savingIn r) ≡ true → (rest : Bits) → acceptOptions (acceptOptionsBits r rest) ≡ got (optionsIn r) rest
   unfolding acceptOptions
   options-back x w rest =
       rw (type2-number-back ssiWidth (inU64 (r .ssi)) (x .ssi) _)
@@ -155,11 +138,9 @@ module _ (r : DLocationUpdateAccept) where
       (rw (type2-back energySaving savingBits savingNormal savingWell well-back (savingIn r) w _)
       (rw (type2-number-back scchWidth (inU64 (r .«scch_information_and_distribution_on_18th_frame»)) (x .scch) rest)))))
 
-  options-absent : acceptMore r ≡ false → (rest : Bits) → acceptOptionsIf false rest ≡ got (optionsIn r) rest
+  options-absent : acceptMore r ≡ false → noAcceptOptions ≡ optionsIn r
   unfolding acceptMore
-  options-absent e rest =
-      let n = none-of _ (both-false (anyOf _) (anyPresent (acceptSlots r)) e .0) in
-      rw (n .0, n .1 .0, n .1 .1 .0, n .1 .1 .1 .0, n .1 .1 .1 .1 .0)
+  options-absent e = none-held (λ s e c m f. acceptOptionsOf s e c (optionMap savingNormal m) f) (acceptSlots r) _ _ _ _ _ _ _ _ _ _ e
 
   slots-absent : acceptMore r ≡ false → anyPresent (acceptSlots r) ≡ false
   unfolding acceptMore
@@ -171,7 +152,7 @@ module _ (r : DLocationUpdateAccept) where
 
   head-back : AcceptFits r → optionAll savingWell (savingIn r) ≡ true → (xs rest : Bits)
       → acceptHead ((digits pduTypeWidth dLocationUpdateAccept ++ (digits updateTypeWidth (r .«location_update_accept_type»)
-      ++ announced (acceptMore r) (before r xs))) ++ rest)
+      ++ announced (acceptMore r) (acceptOptionsBits r xs))) ++ rest)
       ≡ got (headOf (acceptMore r)) (cond (acceptMore r) xs [] ++ rest)
   unfolding acceptHead
   head-back x w xs rest =
@@ -179,7 +160,7 @@ module _ (r : DLocationUpdateAccept) where
       rw (append-assoc (digits pduTypeWidth dLocationUpdateAccept) _ rest, append-assoc (digits updateTypeWidth u) _ rest)
       (rw (type-back dLocationUpdateAccept refl _)
       (rw (number-back updateTypeWidth u (x .accept-type) _)
-      (announced-back acceptOptionsIf (before r) (optionsIn r) before-append (options-back x w) (acceptMore r) options-absent _ xs rest)))
+      (announced-back acceptOptions noAcceptOptions (acceptOptionsBits r) (optionsIn r) options-append (options-back x w) (acceptMore r) options-absent _ xs rest)))
 
   -- with the slots it makes the normal form
   made : (o : Bool) → acceptOf (headOf o) (slotsNormal acceptTable (acceptSlots r)) ≡ acceptNormal r
@@ -259,7 +240,7 @@ accept-normal-same r location-normal-same = record {
 
 abbrev optionsNormal : AcceptOptions → AcceptOptions
 optionsNormal t =
-    optionsOf (inU64 (t .ssi)) (inU64 (t .«address_extension»)) (inU64 (t .«subscriber_class»))
+    acceptOptionsOf (inU64 (t .ssi)) (inU64 (t .«address_extension»)) (inU64 (t .«subscriber_class»))
     (optionMap savingNormal (held (t .«energy_saving_information» .present) (t .«energy_saving_information» .value)))
     (inU64 (t .«scch_information_and_distribution_on_18th_frame»))
 
@@ -279,8 +260,8 @@ options-own true bs {t} h =
     split-then (type2 (field subscriberClassWidth) b₂) _ q₂ (λ c b₃ p₃ q₃.
     split-then (type2 energySaving b₃) _ q₃ (λ m b₄ p₄ q₄.
     split-then (type2 (field scchWidth) b₄) _ q₄ (λ f b₅ p₅ q₅.
-    let made : optionsOf s e c m f ≡ t = cc in
-    rw (← made) (λ i. optionsOf (held-option 0 s i) (held-option 0 e i) (held-option 0 c i) (type2-saving-own b₃ p₄ i) (held-option 0 f i)))))))
+    let made : acceptOptionsOf s e c m f ≡ t = cc in
+    rw (← made) (λ i. acceptOptionsOf (held-option 0 s i) (held-option 0 e i) (held-option 0 c i) (type2-saving-own b₃ p₄ i) (held-option 0 f i)))))))
 options-own false bs {t} h = let made : noAcceptOptions ≡ t = cc in rw (← made)
 
 head-own : (bs : Bits) {h : AcceptHead} {rest : Bits} → acceptHead bs ≡ got h rest → optionsNormal (h .options) ≡ h .options

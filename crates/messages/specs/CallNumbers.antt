@@ -1,24 +1,20 @@
 -- The numbers of the calls: a reading is refused with 1 to 7, a writing with 1 or 8 to 16; and what a refusal's answer is.
-use Prim.Native.Nat.{ℕ, zero, suc, _+_, _-_, _≤_, _<_}
+use Prim.Native.Nat.{ℕ, zero, suc, _-_, _≤_}
 use native.Mathlib.Omega.{arith}
-use mathlib.Core.Path.{_≡_, refl, sym, _∙_, ap}
+use mathlib.Core.Path.{_≡_, refl}
 use mathlib.Core.Logic.{_⊎_, inl, inr, ⊎-elim}
 use mathlib.Core.Bool.{Bool, true, false, cond, _&&_}
-use mathlib.Core.Option.{Option, none, some}
-use mathlib.Core.List.{List, [], _∷_}
+use mathlib.Core.List.{List}
 use lib.ListN.{length}
 use lib.Dec.{eqb, leb}
 use Rattle.bits.specs.PduParseError.{invalidPduType, badCall}
 use Rattle.bits.specs.Bits.{Bits}
-use Rattle.bits.specs.Reader.{Answer, got, refused, Reader, then, _>>=_, field, unless}
+use Rattle.bits.specs.Reader.{Answer, got, refused, Reader, field}
 use Rattle.bits.specs.Written.{putBits}
-use Rattle.elements.specs.Numbers.{flagWidth, optionalNumber, type2}
-use Rattle.elements.specs.ClassOfMs.{classOfMs}
-use Rattle.elements.specs.EnergySaving.{energySaving}
 use Rattle.elements.specs.Table.{Counted, isListed}
 use Rattle.elements.specs.Kinds.{Slot, Element, identifierOf, content}
-use Rattle.elements.specs.Numbered.{ReadingNumber, Numbered, bind-numbered, got-numbered, field-numbered, unless-numbered, numbered·rules, type2-numbered, class-numbered, saving-numbered, scan-numbered, content-numbered}
-use Rattle.messages.specs.Head.{pduTypeWidth, pduType}
+use Rattle.elements.specs.Numbered.{Numbered, bind-numbered, got-numbered, field-numbered, unless-numbered, numbered·rules, type2-numbered, class-numbered, saving-numbered, scan-numbered, content-numbered}
+use Rattle.messages.specs.Head.{pduTypeWidth, pduType, behindObit}
 use Rattle.messages.specs.Format.{Format, body, message}
 use Rattle.messages.specs.Questions.{Asked, firstNo}
 use Rattle.messages.specs.Demand.{demandHead, demandOptions, demandOptionsIf, noDemandOptions}
@@ -28,7 +24,6 @@ use Rattle.messages.specs.Calls.{Message, demand, accept, attachDetach, 
 use Rattle.messages.specs.declared.Record.{Record}
 use Rattle.messages.specs.declared.Reading.{Reading}
 use Rattle.messages.specs.declared.Writing.{Writing}
-use Rattle.messages.specs.declared.Verdict.{Verdict}
 use Rattle.messages.specs.declared.Verdict.the-variants.{Accepted, Refused}
 
 -- ## the three messages
@@ -39,15 +34,17 @@ pdu-type-numbered m =
     bind-numbered (field pduTypeWidth) _ (field-numbered pduTypeWidth)
     (λ t. unless-numbered (eqb t m) invalidPduType (record { low = omega arith; high = omega arith }))
 
+behind-numbered : {A : Type 0} (r : Reader A) (z : A) → Numbered r → (b : Bool) → Numbered (behindObit r z b)
+behind-numbered r z h true = h
+behind-numbered r z h false = got-numbered z
+
 demand-options-numbered : (b : Bool) → Numbered (demandOptionsIf b)
 unfolding demandOptions
-demand-options-numbered true = search (type2-numbered, numbered·rules, class-numbered) depth 16
-demand-options-numbered false = got-numbered noDemandOptions
+demand-options-numbered = behind-numbered demandOptions noDemandOptions (search (type2-numbered, numbered·rules, class-numbered) depth 16)
 
 accept-options-numbered : (b : Bool) → Numbered (acceptOptionsIf b)
 unfolding acceptOptions
-accept-options-numbered true = search (type2-numbered, numbered·rules, saving-numbered) depth 16
-accept-options-numbered false = got-numbered noAcceptOptions
+accept-options-numbered = behind-numbered acceptOptions noAcceptOptions (search (type2-numbered, numbered·rules, saving-numbered) depth 16)
 
 head-numbered : (m : Message) → Numbered (formatOf m .head)
 unfolding demandHead acceptHead attachDetachHead

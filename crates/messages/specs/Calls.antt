@@ -1,7 +1,6 @@
 -- A reading call and a writing call over octets and a window (document 01, 'A reading call', 'A writing call').
 use Prim.Native.Nat.{ℕ, zero, suc, _+_, _-_, _*_, _/_}
-use mathlib.Core.Path.{_≡_}
-use mathlib.Core.Bool.{Bool, true, false, cond, _&&_, _||_}
+use mathlib.Core.Bool.{Bool, cond, _&&_, _||_}
 use mathlib.Core.Option.{none}
 use mathlib.Core.List.{List, []}
 use lib.ListN.{length, drop}
@@ -11,7 +10,6 @@ use Rattle.bits.specs.Bits.{Bits}
 use Rattle.bits.specs.Reader.{Answer, got, refused, Reader}
 use Rattle.bits.specs.Placed.{window}
 use Rattle.bits.specs.Written.{putBits}
-use Rattle.bits.specs.declared.bitbuffer.Cursor.{Cursor}
 use Rattle.elements.specs.Numbers.{u64Of}
 use Rattle.elements.specs.Table.{Counted}
 use Rattle.elements.specs.Kinds.{Slot, Element, identifierOf, content}

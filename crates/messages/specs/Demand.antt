@@ -1,7 +1,7 @@
 -- U-LOCATION UPDATE DEMAND (EN 300 392-2, clause 16.9.3.4): how it is read and written, and what is asked of its record.
 use Prim.Native.Nat.{ℕ, _*_, _/_}
 use mathlib.Core.Path.{_≡_}
-use mathlib.Core.Bool.{Bool, true, false, _&&_, _||_, Bool·beq}
+use mathlib.Core.Bool.{Bool, true, _&&_, _||_, Bool·beq}
 use mathlib.Core.Option.{Option, none}
 use mathlib.Core.List.{List, [], _∷_, _++_}
 use lib.ListN.{getD}
@@ -20,7 +20,7 @@ use Rattle.elements.specs.declared.class_of_ms.ClassOfMs.{ClassOfMs}
 use Rattle.elements.specs.declared.group_identity_location_demand.GroupIdentityLocationDemand.{GroupIdentityLocationDemand}
 use Rattle.elements.specs.declared.typed_pdu_fields.OptionalType3.{OptionalType3}
 use Rattle.elements.specs.declared.group_identity_location_demand.OptionalLocationDemand.{OptionalLocationDemand}
-use Rattle.messages.specs.Head.{pduTypeWidth, uLocationUpdateDemand, pduType, passIf, layoutOptions, anyOf, anyPresent, updateTypeWidth, ssiWidth, extensionWidth}
+use Rattle.messages.specs.Head.{pduTypeWidth, uLocationUpdateDemand, pduType, behindObit, passIf, layoutOptions, anyOf, anyPresent, updateTypeWidth, ssiWidth, extensionWidth}
 use Rattle.messages.specs.Questions.{Asked, lengthFits}
 use Rattle.messages.specs.declared.u_location_update_demand.DemandOptions.{DemandOptions}
 use Rattle.messages.specs.declared.u_location_update_demand.DemandHead.{DemandHead}
@@ -46,30 +46,25 @@ laValueWidth = 14
 abbrev pub halved : ℕ → ℕ
 halved v = v / 2
 
+abbrev pub demandOptionsOf : Option ClassOfMs → Option ℕ → Option ℕ → Option ℕ → Option ℕ → DemandOptions
+demandOptionsOf c m l s e = record {
+  «class_of_ms» = classOption c;
+  «energy_saving_mode» = u8Of m;
+  «la_information» = u64Of l;
+  ssi = u64Of s;
+  «address_extension» = u64Of e;
+}
+
 unfoldable pub demandOptions : Reader DemandOptions
 demandOptions =
     type2 classOfMs >>= λ c. type2 (field savingModeWidth) >>= λ m. type2 (field laWidth) >>= λ l. type2 (field ssiWidth) >>= λ s.
-    type2 (field extensionWidth) >>= λ e.
-    got (record {
-      «class_of_ms» = classOption c;
-      «energy_saving_mode» = u8Of m;
-      «la_information» = u64Of (optionMap halved l);
-      ssi = u64Of s;
-      «address_extension» = u64Of e;
-    })
+    type2 (field extensionWidth) >>= λ e. got (demandOptionsOf c m (optionMap halved l) s e)
 
 abbrev pub noDemandOptions : DemandOptions
-noDemandOptions = record {
-  «class_of_ms» = classOption none;
-  «energy_saving_mode» = u8Of none;
-  «la_information» = u64Of none;
-  ssi = u64Of none;
-  «address_extension» = u64Of none;
-}
+noDemandOptions = demandOptionsOf none none none none none
 
 abbrev pub demandOptionsIf : Bool → Reader DemandOptions
-demandOptionsIf true bs = demandOptions bs
-demandOptionsIf false bs = got noDemandOptions bs
+demandOptionsIf = behindObit demandOptions noDemandOptions
 
 unfoldable pub demandHead : Reader DemandHead
 demandHead =
@@ -135,14 +130,18 @@ demandMore r =
     anyOf (r .«class_of_ms» .present ∷ r .«energy_saving_mode» .present ∷ r .«la_information» .present ∷ r .ssi .present ∷ r .«address_extension» .present ∷ [])
     || anyPresent (demandSlots r)
 
+-- the type 2 elements, before others
+abbrev pub demandOptionsBits : ULocationUpdateDemand → Bits → Bits
+demandOptionsBits r xs =
+    type2Bits classBits (classIn r) ++ (type2Bits (digits savingModeWidth) (inU8 (r .«energy_saving_mode»))
+    ++ (type2Bits (λ la. digits laWidth (2 * la)) (inU64 (r .«la_information»)) ++ (type2Bits (digits ssiWidth) (inU64 (r .ssi))
+    ++ (type2Bits (digits extensionWidth) (inU64 (r .«address_extension»)) ++ xs))))
+
 unfoldable pub demandBits : ULocationUpdateDemand → Bits
 demandBits r =
     digits pduTypeWidth uLocationUpdateDemand ++ (digits updateTypeWidth (r .«location_update_type») ++ (digits flagWidth (r .«request_to_append_la»)
     ++ (digits flagWidth (r .«cipher_control») ++ (optionBits (digits cipheringWidth) (inU64 (r .«ciphering_parameters»))
-    ++ announced (demandMore r)
-    (type2Bits classBits (classIn r) ++ (type2Bits (digits savingModeWidth) (inU8 (r .«energy_saving_mode»))
-    ++ (type2Bits (λ la. digits laWidth (2 * la)) (inU64 (r .«la_information»)) ++ (type2Bits (digits ssiWidth) (inU64 (r .ssi))
-    ++ (type2Bits (digits extensionWidth) (inU64 (r .«address_extension»)) ++ tableBits identifierOf contentBits demandTable (demandSlots r))))))))))
+    ++ announced (demandMore r) (demandOptionsBits r (tableBits identifierOf contentBits demandTable (demandSlots r)))))))
 
 -- THE QUESTIONS
 unfoldable pub demandAsked : ULocationUpdateDemand → Asked

@@ -3,24 +3,25 @@ use Prim.Native.Nat.{ℕ, _+_, _-_, _*_, _/_, _≤_, _<_, min}
 use native.Mathlib.Omega.{arith}
 use mathlib.Core.Path.{_≡_, refl, sym, ap, _∙_}
 use mathlib.Core.Logic.{_↔_}
-use mathlib.Core.Bool.{Bool, true, false, cond, _&&_}
-use mathlib.Core.List.{List, [], _∷_, _++_}
-use lib.ListN.{length, take, drop, replicate, length-append, length-replicate}
+use mathlib.Core.Bool.{true, false, _&&_}
+use mathlib.Core.List.{List, _++_}
+use lib.ListN.{length, replicate, length-append, length-replicate}
 use lib.Dec.{leb, eqb}
 use lib.Seq.{take-at}
 use borrow.Author.Tests.{leb-true, le-leb}
-use Rattle.bits.specs.Bits.{Bits, bitsOf}
+use Rattle.bits.specs.Bits.{Bits}
 use Rattle.bits.specs.Reader.{Answer, got, refused}
+use Rattle.bits.specs.ReaderLaws.{got-refused}
 use Rattle.bits.specs.Placed.{window}
 use Rattle.bits.specs.PlacedLaws.{length-window}
 use Rattle.bits.specs.Written.{octetsOf}
 use Rattle.bits.specs.WrittenLaws.{Octets, octets-octetsOf, length-octetsOf, bitsOf-octetsOf}
 use Rattle.elements.specs.Table.{Counted, counted, Piece, total}
-use Rattle.elements.specs.Kinds.{Slot, Element, identifierOf, content}
+use Rattle.elements.specs.Kinds.{identifierOf, content}
 use Rattle.elements.specs.NumbersLaws.{both}
-use Rattle.messages.specs.Format.{Walked, leaves, stays}
+use Rattle.messages.specs.Format.{leaves, stays}
 use Rattle.messages.specs.Demand3.{Refuses, Inside, Demand3, demand3}
-use Rattle.messages.specs.Calls.{Message, messageOf, formatOf, readMessage, walkOver, known, octetsMost, goodWindow, goodCall, windowOf, noReading, readingOf, reading}
+use Rattle.messages.specs.Calls.{Message, messageOf, formatOf, readMessage, walkOver, known, octetsMost, goodWindow, goodCall, windowOf, readingOf, reading}
 use Rattle.messages.specs.ReadBack.{messages-regular}
 use Rattle.messages.specs.CallNumbers.{accepted-refused}
 use Rattle.messages.specs.declared.Record.{Record}
@@ -71,9 +72,6 @@ call-is m how os first end k h w = rw (k, h, w)
 
 refused-none : (first n : ℕ) (x : Answer (Counted Record)) → Refuses x → GivesNone (readingOf first n x)
 refused-none first n x (k, e) = (k, rw e)
-
-got-refused : {A B : Type 0} {a : A} {rest : Bits} {n : ℕ} → got a rest ≡ refused n → B
-got-refused e = let z : _≡_ {A = ℕ} 0 1 = cc in absurd (omega arith)
 
 got-value : {A : Type 0} {a b : A} {r s : Bits} → got a r ≡ got b s → a ≡ b
 got-value e = cc

@@ -10,8 +10,8 @@ use lib.Dec.{eqb}
 use borrow.Author.Tests.{ltb-true}
 use Rattle.bits.specs.Bits.{Bits, bit, digits}
 use Rattle.bits.specs.Reader.{got, field, Local}
-use Rattle.bits.specs.ReaderLaws.{split-then, local·rules, follows·rules, got-local, Follows, field-passes, got-follows, field-back}
-use Rattle.elements.specs.Numbers.{held, isPresent, optionalNumber, optionAll, optionMap, optionBits, inWidth, u8Of, inU8, u64Of, inU64, flagWidth, type2, type2Bits, announced}
+use Rattle.bits.specs.ReaderLaws.{split-then, local·rules, follows·rules, Follows, field-passes, field-back}
+use Rattle.elements.specs.Numbers.{held, isPresent, optionalNumber, optionAll, optionMap, optionBits, inWidth, inU8, u64Of, inU64, flagWidth, type2, announced}
 use Rattle.elements.specs.NumbersLaws.{never, both, number-back, one-bit, type2-back, type2-same-back, type2-number-back, optionalNumber-back, held-option, same-held, same-map, same-self, same-normal, sameU8, sameU8-self, sameU64, sameU64-self}
 use Rattle.elements.specs.ClassOfMs.{classOfMs, classBits, classFits, noClass, classOption}
 use Rattle.elements.specs.ClassOfMsLaws.{class-local, class-passes, class-back}
@@ -21,15 +21,14 @@ use Rattle.elements.specs.Table.{Counted, counted, isListed}
 use Rattle.elements.specs.TableBack.{distinct, normalSlots}
 use Rattle.elements.specs.Locations.{noLocationDemand, locationDemandFits, locationDemandNormal, SameLocationDemand}
 use Rattle.elements.specs.Kinds.{Element, identifierOf, content, contentBits, elementNormal, type3Held, type3Option, locationDemandOption}
-use Rattle.elements.specs.declared.class_of_ms.ClassOfMs.{ClassOfMs}
 use Rattle.elements.specs.declared.group_identity_location_demand.GroupIdentityLocationDemand.{GroupIdentityLocationDemand}
 use Rattle.messages.specs.Head.{pduTypeWidth, uLocationUpdateDemand, pduType, updateTypeWidth, passIf, passType2, layoutOptions, anyOf, anyPresent, ssiWidth, extensionWidth}
-use Rattle.messages.specs.HeadLaws.{type-local, type-passes, type-back, layout-options-local, type2-local, type2-follows, end-follows, if-follows, announced-back, both-false, none-of}
+use Rattle.messages.specs.HeadLaws.{type-local, type-passes, type-back, layout-options-local, type2-local, type2-follows, end-follows, behind-local, behind-follows, announced-back, both-false, none-held}
 use Rattle.messages.specs.QuestionsLaws.{six}
 use Rattle.messages.specs.Format.{message}
 use Rattle.messages.specs.FormatLaws.{format-back, format-own}
 use Rattle.messages.specs.SlotsLaws.{slotsNormal, SlotsRead, SlotsOwn, slot-own, type3-slot, location-demand-slot, type3-own, location-demand-own}
-use Rattle.messages.specs.Demand.{cipheringWidth, classWidth, laWidth, laValueWidth, halved, demandOptions, noDemandOptions, demandOptionsIf, demandHead, demandLayout, demandTable, demandOf, classIn, locationIn, demandSlots, demandMore, demandBits, demandAsked, demandNormal, SameDemand}
+use Rattle.messages.specs.Demand.{cipheringWidth, classWidth, laWidth, laValueWidth, halved, demandOptionsOf, demandOptions, noDemandOptions, demandOptionsIf, demandHead, demandLayout, demandTable, demandOf, classIn, locationIn, demandSlots, demandMore, demandOptionsBits, demandBits, demandAsked, demandNormal, SameDemand}
 use Rattle.messages.specs.Calls.{ofDemand, demandFormat}
 use Rattle.messages.specs.declared.u_location_update_demand.DemandOptions.{DemandOptions}
 use Rattle.messages.specs.declared.u_location_update_demand.DemandHead.{DemandHead}
@@ -40,8 +39,7 @@ use Rattle.messages.specs.declared.Record.{Record}
 
 pub demand-options-local : (b : Bool) → Local (demandOptionsIf b)
 unfolding demandOptions
-demand-options-local true = search (type2-local, local·rules, class-local) depth 16
-demand-options-local false = got-local noDemandOptions
+demand-options-local = behind-local demandOptions noDemandOptions (search (type2-local, local·rules, class-local) depth 16)
 
 pub demand-head-local : Local demandHead
 unfolding demandHead
@@ -54,7 +52,7 @@ demand-layout-local = search (local·rules, layout-options-local) depth 16
 options-follow : (b : Bool)
     → Follows (demandOptionsIf b) (passIf b (passType2 (classWidth ∷ savingModeWidth ∷ laWidth ∷ ssiWidth ∷ extensionWidth ∷ []))) (λ t. tt)
 unfolding demandOptions
-options-follow = if-follows _ demandOptionsIf (search (type2-follows, end-follows, field-passes, class-passes) depth 16) (got-follows noDemandOptions _)
+options-follow = behind-follows demandOptions noDemandOptions _ (search (type2-follows, end-follows, field-passes, class-passes) depth 16)
 
 pub demand-follows : Follows demandHead demandLayout (λ h. eqb (h .obit) 1)
 unfolding demandHead demandLayout layoutOptions
@@ -115,24 +113,9 @@ ciphered r = there (eqb (r .«cipher_control») 1) (r .«ciphering_parameters» 
 
 -- ## reading back
 
-abbrev optionsOf : Option ClassOfMs → Option ℕ → Option ℕ → Option ℕ → Option ℕ → DemandOptions
-optionsOf c m l s e = record {
-  «class_of_ms» = classOption c;
-  «energy_saving_mode» = u8Of m;
-  «la_information» = u64Of l;
-  ssi = u64Of s;
-  «address_extension» = u64Of e;
-}
-
--- the type 2 elements of a record, and their bits before others
+-- the type 2 elements of a record
 abbrev optionsIn : ULocationUpdateDemand → DemandOptions
-optionsIn r = optionsOf (classIn r) (inU8 (r .«energy_saving_mode»)) (inU64 (r .«la_information»)) (inU64 (r .ssi)) (inU64 (r .«address_extension»))
-
-abbrev before : ULocationUpdateDemand → Bits → Bits
-before r xs =
-    type2Bits classBits (classIn r) ++ (type2Bits (digits savingModeWidth) (inU8 (r .«energy_saving_mode»))
-    ++ (type2Bits (λ la. digits laWidth (2 * la)) (inU64 (r .«la_information»)) ++ (type2Bits (digits ssiWidth) (inU64 (r .ssi))
-    ++ (type2Bits (digits extensionWidth) (inU64 (r .«address_extension»)) ++ xs))))
+optionsIn r = demandOptionsOf (classIn r) (inU8 (r .«energy_saving_mode»)) (inU64 (r .«la_information»)) (inU64 (r .ssi)) (inU64 (r .«address_extension»))
 
 -- the LA is written twice as large, and halved again
 la-back : (la : ℕ) → inWidth laValueWidth la ≡ true → (rest : Bits) → field laWidth (digits laWidth (2 * la) ++ rest) ≡ got (2 * la) rest
@@ -143,10 +126,10 @@ la-halved none = refl
 la-halved (some la) = ap some (omega arith)
 
 module _ (r : ULocationUpdateDemand) where
-  before-append : (xs rest : Bits) → before r xs ++ rest ≡ before r (xs ++ rest)
-  before-append xs rest = simp append-assoc
+  options-append : (xs rest : Bits) → demandOptionsBits r xs ++ rest ≡ demandOptionsBits r (xs ++ rest)
+  options-append xs rest = simp append-assoc
 
-  options-back : DemandFits r → (rest : Bits) → demandOptions (before r rest) ≡ got (optionsIn r) rest
+  options-back : DemandFits r → (rest : Bits) → demandOptions (demandOptionsBits r rest) ≡ got (optionsIn r) rest
   unfolding demandOptions
   options-back x rest =
       rw (type2-same-back classOfMs classBits classFits class-back (classIn r) (x .class) _)
@@ -156,11 +139,9 @@ module _ (r : ULocationUpdateDemand) where
       (rw (type2-number-back extensionWidth (inU64 (r .«address_extension»)) (x .extension) rest)
       (rw (la-halved (inU64 (r .«la_information»))))))))
 
-  options-absent : demandMore r ≡ false → (rest : Bits) → demandOptionsIf false rest ≡ got (optionsIn r) rest
+  options-absent : demandMore r ≡ false → noDemandOptions ≡ optionsIn r
   unfolding demandMore
-  options-absent e rest =
-      let n = none-of _ (both-false (anyOf _) (anyPresent (demandSlots r)) e .0) in
-      rw (n .0, n .1 .0, n .1 .1 .0, n .1 .1 .1 .0, n .1 .1 .1 .1 .0)
+  options-absent e = none-held demandOptionsOf (demandSlots r) _ _ _ _ _ _ _ _ _ _ e
 
   slots-absent : demandMore r ≡ false → anyPresent (demandSlots r) ≡ false
   unfolding demandMore
@@ -180,7 +161,7 @@ module _ (r : ULocationUpdateDemand) where
   head-back : DemandFits r → demandAsked r .ciphered ≡ true → (xs rest : Bits)
       → demandHead ((digits pduTypeWidth uLocationUpdateDemand ++ (digits updateTypeWidth (r .«location_update_type») ++ (digits flagWidth (r .«request_to_append_la»)
       ++ (digits flagWidth (r .«cipher_control») ++ (optionBits (digits cipheringWidth) (inU64 (r .«ciphering_parameters»))
-      ++ announced (demandMore r) (before r xs)))))) ++ rest)
+      ++ announced (demandMore r) (demandOptionsBits r xs)))))) ++ rest)
       ≡ got (headOf (demandMore r)) (cond (demandMore r) xs [] ++ rest)
   unfolding demandHead
   head-back x c xs rest =
@@ -195,7 +176,7 @@ module _ (r : ULocationUpdateDemand) where
       (rw (number-back flagWidth a (x .append) _)
       (rw (number-back flagWidth k (x .cipher) _)
       (rw (optionalNumber-back cipheringWidth (eqb k 1) p (ciphered r c) (x .ciphering) _)
-      (announced-back demandOptionsIf (before r) (optionsIn r) before-append (options-back x) (demandMore r) options-absent _ xs rest)))))))
+      (announced-back demandOptions noDemandOptions (demandOptionsBits r) (optionsIn r) options-append (options-back x) (demandMore r) options-absent _ xs rest)))))))
 
   -- with the slots it makes the normal form
   made : (o : Bool) → demandOf (headOf o) (slotsNormal demandTable (demandSlots r)) ≡ demandNormal r
@@ -268,7 +249,7 @@ demand-normal-same r location-normal-same = record {
 
 abbrev optionsNormal : DemandOptions → DemandOptions
 optionsNormal t =
-    optionsOf (held (t .«class_of_ms» .present) (t .«class_of_ms» .value)) (inU8 (t .«energy_saving_mode»)) (inU64 (t .«la_information»)) (inU64 (t .ssi))
+    demandOptionsOf (held (t .«class_of_ms» .present) (t .«class_of_ms» .value)) (inU8 (t .«energy_saving_mode»)) (inU64 (t .«la_information»)) (inU64 (t .ssi))
     (inU64 (t .«address_extension»))
 
 options-own : (b : Bool) (bs : Bits) {t : DemandOptions} {rest : Bits} → demandOptionsIf b bs ≡ got t rest → optionsNormal t ≡ t
@@ -279,8 +260,8 @@ options-own true bs {t} h =
     split-then (type2 (field laWidth) b₂) _ q₂ (λ l b₃ p₃ q₃.
     split-then (type2 (field ssiWidth) b₃) _ q₃ (λ s b₄ p₄ q₄.
     split-then (type2 (field extensionWidth) b₄) _ q₄ (λ e b₅ p₅ q₅.
-    let made : optionsOf c m (optionMap halved l) s e ≡ t = cc in
-    rw (← made) (λ i. optionsOf (held-option noClass c i) (held-option 0 m i) (held-option 0 (optionMap halved l) i) (held-option 0 s i) (held-option 0 e i)))))))
+    let made : demandOptionsOf c m (optionMap halved l) s e ≡ t = cc in
+    rw (← made) (λ i. demandOptionsOf (held-option noClass c i) (held-option 0 m i) (held-option 0 (optionMap halved l) i) (held-option 0 s i) (held-option 0 e i)))))))
 options-own false bs {t} h = let made : noDemandOptions ≡ t = cc in rw (← made)
 
 record HeadOwn (h : DemandHead) : Type 0 where

@@ -2,37 +2,35 @@
 -- its rows, by computation.
 use Prim.Native.Nat.{ℕ}
 use mathlib.Core.Path.{_≡_, refl}
-use mathlib.Core.Bool.{Bool, true, false}
+use mathlib.Core.Bool.{true, false}
 use mathlib.Core.Option.{Option, none, some}
 use mathlib.Core.List.{List, [], _∷_}
 use Rattle.bits.specs.Bits.{number, digits, bitsOf}
 use Rattle.bits.specs.Reader.{Answer, got, refused, field, pass, times}
 use Rattle.bits.specs.Placed.{window}
 use Rattle.bits.specs.Written.{splice, octetsOf, putBits}
-use Rattle.elements.specs.Numbers.{u8Of, u64Of}
+use Rattle.elements.specs.Numbers.{u64Of}
 use Rattle.elements.specs.Table.{look, header, closing, whole, piece, manyOf, many, pieces, isListed, scan}
 use Rattle.elements.specs.TableWritten.{elementBits, tableBits}
 use Rattle.elements.specs.Groups.{typeOf, listedForm, addressOf, addressBits, addressFits, uplinkAddress, uplink, downlinkAddress, downlink, attachmentInfo, uplinkBits, uplinkFits, uplinkOne, uplinkListed}
-use Rattle.elements.specs.ClassOfMs.{numbers, numbersFit, classOfMs, classOf, classBits, classFits, classOption}
-use Rattle.elements.specs.EnergySaving.{savingOf, savingFits, savingBits, aliveHasNone, othersHaveBoth}
+use Rattle.elements.specs.ClassOfMs.{numbers, numbersFit, classOfMs, classOf, classBits, classFits}
+use Rattle.elements.specs.EnergySaving.{savingFits, savingBits, aliveHasNone, othersHaveBoth}
 use Rattle.elements.specs.Generics.{kept, type3, type4, type3Bits, type4Bits, type3Fits, type4Fits}
 use Rattle.elements.specs.Lists.{uplinks, downlinks, list, listOf, listBits, listFits, listOne, listListed, each, all}
-use Rattle.elements.specs.Locations.{demandBody, locationDemand, nested, locationDemandFits, locationDemandBits, nestedBits, noLocationDemand}
-use Rattle.elements.specs.Kinds.{isType3, contentOf, contentBitsOf, absentType3, absentType4, absentLocationDemand}
+use Rattle.elements.specs.Locations.{demandBody, locationDemand, nested, locationDemandFits, locationDemandBits, nestedBits}
+use Rattle.elements.specs.Kinds.{isType3, contentOf, contentBitsOf, absentType3, absentType4}
 use Rattle.elements.specs.declared.class_of_ms.ClassOfMs.{ClassOfMs}
 use Rattle.elements.specs.declared.group_identity_uplink.OptionalUplinks.{OptionalUplinks}
 use Rattle.elements.specs.declared.group_identity_downlink.OptionalDownlinks.{OptionalDownlinks}
 use Rattle.messages.specs.Format.{message}
 use Rattle.messages.specs.Head.{pduType, anyOf, anyPresent}
 use Rattle.messages.specs.Questions.{firstNo}
-use Rattle.messages.specs.Demand.{demandHead, demandOptions, noDemandOptions, demandOf, demandMore, demandBits, demandAsked}
+use Rattle.messages.specs.Demand.{demandHead, demandOptionsOf, demandOptions, demandOf, demandMore, demandBits, demandAsked}
 use Rattle.messages.specs.Accept.{acceptHead, acceptOptions, noAcceptOptions, acceptOf, acceptMore, acceptBits, acceptAsked}
 use Rattle.messages.specs.AttachDetach.{attachDetachHead, attachDetachOf, attachDetachBits, attachDetachAsked}
-use Rattle.messages.specs.Calls.{noDemand, noAccept, noAttachDetach, ofDemand, ofAccept, ofAttachDetach, noReading, known, goodWindow, goodCall, reading, writingRefusal, writing, octetsWritten}
+use Rattle.messages.specs.Calls.{ofDemand, ofAccept, ofAttachDetach, noReading, known, goodWindow, goodCall, reading, writingRefusal, writing, octetsWritten}
 use Rattle.messages.specs.declared.u_location_update_demand.DemandHead.{DemandHead}
 use Rattle.messages.specs.declared.u_location_update_demand.ULocationUpdateDemand.{ULocationUpdateDemand}
-use Rattle.messages.specs.declared.d_location_update_accept.DLocationUpdateAccept.{DLocationUpdateAccept}
-use Rattle.messages.specs.declared.d_attach_detach_group_identity.DAttachDetachGroupIdentity.{DAttachDetachGroupIdentity}
 use Rattle.messages.specs.declared.Record.{Record}
 use Rattle.messages.specs.declared.Reading.{Reading}
 use Rattle.messages.specs.declared.Writing.{Writing}
@@ -84,13 +82,7 @@ headWith control parameters ssi = record {
   «cipher_control» = control;
   «ciphering_parameters» = u64Of parameters;
   obit = 0;
-  options = record {
-    «class_of_ms» = classOption none;
-    «energy_saving_mode» = u8Of none;
-    «la_information» = u64Of none;
-    ssi = u64Of ssi;
-    «address_extension» = u64Of none;
-  };
+  options = demandOptionsOf none none none ssi none;
 }
 
 abbrev demandWith : ℕ → Option ℕ → Option ℕ → ULocationUpdateDemand

@@ -16,40 +16,40 @@ use Rattle.messages.specs.Format.{Format, body, message}
 
 module _ {S A : Type 0} (identifier : S → ℕ) (content : S → ℕ → Reader A) (contentBits : S → A → Bits) (normal : S → A → A) where
   -- slots of which none is present
-  absent-slots : (ss : List S) (vs : List (Option A)) → anyPresent vs ≡ false → map (λ s. none) ss ≡ normalSlots identifier content contentBits normal ss vs
+  absent-slots : (ss : List S) (vs : List (Option A)) → anyPresent vs ≡ false → map (λ s. none) ss ≡ normalSlots normal ss vs
   unfolding anyPresent normalSlots
   absent-slots [] vs e = refl
   absent-slots (s ∷ ss) [] e = ap (λ vs. none ∷ vs) (absent-slots ss [] e)
   absent-slots (s ∷ ss) (none ∷ vs) e = ap (λ vs. none ∷ vs) (absent-slots ss vs e)
   absent-slots (s ∷ ss) (some a ∷ vs) e = never (sym e)
 
-  absent-own : (ss : List S) → normalSlots identifier content contentBits normal ss (map (λ s. none) ss) ≡ map (λ s. none) ss
+  absent-own : (ss : List S) → normalSlots normal ss (map (λ s. none) ss) ≡ map (λ s. none) ss
   unfolding normalSlots
   absent-own [] = refl
   absent-own (s ∷ ss) = ap (λ vs. none ∷ vs) (absent-own ss)
 
   module _ {R : Type 0} (f : Format S A R) where
     -- a message whose head is read back is read back, with or without its slots behind the O-bit
-    pub format-back : distinct identifier content (f .table) ≡ true → (vs : List (Option A)) → SlotsBack identifier content contentBits normal (f .table) vs
+    pub format-back : distinct identifier (f .table) ≡ true → (vs : List (Option A)) → SlotsBack content contentBits normal (f .table) vs
         → (more : Bool) → (more ≡ false → anyPresent vs ≡ false) → (bs rest : Bits) {h : f .Head}
         → f .head bs ≡ got h (cond more (tableBits identifier contentBits (f .table) vs) [] ++ rest) → f .more h ≡ more
-        → message identifier content f false bs ≡ got (counted 0 (f .finish h (normalSlots identifier content contentBits normal (f .table) vs))) rest
+        → message identifier content f false bs ≡ got (counted 0 (f .finish h (normalSlots normal (f .table) vs))) rest
     unfolding message
     format-back apart vs backs more absent bs rest {h} e m = rw e (rw m (go more absent))
       where
         go : (b : Bool) → (b ≡ false → anyPresent vs ≡ false)
             → body identifier content f false h b (cond b (tableBits identifier contentBits (f .table) vs) [] ++ rest)
-            ≡ got (counted 0 (f .finish h (normalSlots identifier content contentBits normal (f .table) vs))) rest
+            ≡ got (counted 0 (f .finish h (normalSlots normal (f .table) vs))) rest
         go true absent = rw (table-back identifier content contentBits normal (isListed identifier (f .table)) (f .table) apart vs backs rest)
         go false absent = rw (absent-slots (f .table) vs (absent refl))
 
     -- a record is its own normal form where the record of such a head and such slots is
     pub format-own : (own : R → R)
         → ((bs rest : Bits) (h : f .Head) → f .head bs ≡ got h rest → (vs : List (Option A))
-        → normalSlots identifier content contentBits normal (f .table) vs ≡ vs → own (f .finish h vs) ≡ f .finish h vs)
+        → normalSlots normal (f .table) vs ≡ vs → own (f .finish h vs) ≡ f .finish h vs)
         → (b : Bool)
         → ((bs rest : Bits) (y : Counted (List (Option A))) → scanTable identifier content b (f .table) bs ≡ got y rest
-        → normalSlots identifier content contentBits normal (f .table) (y .value) ≡ y .value)
+        → normalSlots normal (f .table) (y .value) ≡ y .value)
         → (bs : Bits) {x : Counted R} {rest : Bits} → message identifier content f b bs ≡ got x rest → own (x .value) ≡ x .value
     unfolding message
     format-own own made b slots bs {x} {rest} e = split-then (f .head bs) _ e (λ h mid p q. go h mid p (f .more h) q)

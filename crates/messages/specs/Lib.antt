@@ -19,6 +19,7 @@ pub mod ReadBack
 pub mod MessageAnswers
 pub mod PlacedMessages
 pub mod CallNumbers
+pub mod PlacedCalls
 pub mod Demand3Calls
 pub mod RoundTrip
 pub mod Examples

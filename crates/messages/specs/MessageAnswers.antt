@@ -2,15 +2,14 @@
 use mathlib.Core.List.{List}
 use lib.ListN.{getD}
 use Rattle.bits.specs.Placed.{Placed, placed, halted}
-use Rattle.elements.specs.Rows.{type3From, type4From}
-use Rattle.elements.specs.Answers.{noGeneric}
+use Rattle.elements.specs.Rows.{type3From, type4From, noGeneric}
 use Rattle.elements.specs.declared.typed_pdu_fields.Generic.{Generic}
 use Rattle.elements.specs.declared.group_identity_downlink.OptionalDownlinks.{OptionalDownlinks}
 use Rattle.elements.specs.declared.group_identity_location_demand.OptionalLocationDemand.{OptionalLocationDemand}
 use Rattle.elements.specs.declared.group_identity_location_accept.OptionalLocationAccept.{OptionalLocationAccept}
 use Rattle.elements.specs.Table.{Counted}
 use Rattle.elements.specs.declared.typed_pdu_fields.Skipped.the-variants as S
-use Rattle.messages.specs.Calls.{noAttachDetach}
+use Rattle.messages.specs.Calls.{noDemand, noAccept, noAttachDetach}
 use Rattle.messages.specs.Demand.{demandWith}
 use Rattle.messages.specs.Accept.{acceptWith}
 use Rattle.messages.specs.AttachDetach.{attachDetachWith}
@@ -33,6 +32,8 @@ use Rattle.messages.specs.declared.d_attach_detach_group_identity.DAttac
 use Rattle.messages.specs.declared.d_attach_detach_group_identity.AttachDetachHeadRead.{AttachDetachHeadRead}
 use Rattle.messages.specs.declared.d_attach_detach_group_identity.AttachDetachHeadRead.the-variants as TH
 use Rattle.messages.specs.declared.d_attach_detach_group_identity.AttachDetachRead.{AttachDetachRead}
+use Rattle.messages.specs.declared.u_location_update_demand.DemandRead.{DemandRead}
+use Rattle.messages.specs.declared.d_location_update_accept.AcceptRead.{AcceptRead}
 use Rattle.messages.specs.declared.Record.{Record}
 
 abbrev pub asDemandOptions : DemandOptionsRead → Placed DemandOptions
@@ -65,6 +66,14 @@ abbrev pub attachDetachFrom : AttachDetachHead → OptionalDownlinks → List Ge
 attachDetachFrom h l gs = attachDetachWith h l (λ i. type3From (getD gs i noGeneric)) (λ i. type4From (getD gs i noGeneric))
 
 -- the count skipped and the place beside the record
+abbrev pub demandAnswer : Placed (Counted Record) → DemandRead
+demandAnswer (placed x c) = record { verdict = S.Count (x .skipped) c; «record» = x .value .demand }
+demandAnswer (halted n) = record { verdict = S.Refused n; «record» = noDemand }
+
+abbrev pub acceptAnswer : Placed (Counted Record) → AcceptRead
+acceptAnswer (placed x c) = record { verdict = S.Count (x .skipped) c; «record» = x .value .accept }
+acceptAnswer (halted n) = record { verdict = S.Refused n; «record» = noAccept }
+
 abbrev pub attachDetachAnswer : Placed (Counted Record) → AttachDetachRead
 attachDetachAnswer (placed x c) = record { verdict = S.Count (x .skipped) c; «record» = x .value .«attach_detach» }
 attachDetachAnswer (halted n) = record { verdict = S.Refused n; «record» = noAttachDetach }

@@ -1,7 +1,6 @@
 -- What a writing call asks of a record (document 01, 'A writing call'): the answers, and the order in which they are asked.
-use Prim.Native.Nat.{ℕ, _^_, _≤_}
+use Prim.Native.Nat.{ℕ, _^_}
 use mathlib.Core.Bool.{Bool, cond}
-use mathlib.Core.Option.{Option}
 use lib.ListN.{length}
 use lib.Dec.{leb, ltb}
 use Rattle.bits.specs.PduParseError.{valueTooLarge, cipheringMismatch, notOneAttachment, addressFormUnlisted, stayAliveWithFrame, frameMissing, type4NotWritten, lengthTooLarge, windowTooShort}

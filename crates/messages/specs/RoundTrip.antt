@@ -1,26 +1,24 @@
 -- WHAT THE WRITER TAKES READS BACK: each record that a writing call takes reads back the same, from exactly the bits written; every other
 -- bit is kept.
-use Prim.Native.Nat.{ℕ, zero, suc, _+_, _-_, _*_, _≤_, _<_, min}
+use Prim.Native.Nat.{ℕ, zero, suc, _+_, _-_, _*_, _≤_}
 use native.Mathlib.Omega.{arith}
-use mathlib.Core.Path.{_≡_, refl, sym, ap, _∙_, subst}
+use mathlib.Core.Path.{_≡_, refl, sym, ap, _∙_}
 use mathlib.Core.Bool.{Bool, true, false, cond, _&&_}
-use mathlib.Core.List.{List, [], _∷_, _++_}
+use mathlib.Core.List.{List, _++_}
 use lib.ListN.{length, take, drop, length-append}
 use lib.Dec.{leb, eqb}
 use borrow.Author.Tests.{leb-true, le-leb}
-use Rattle.bits.specs.PduParseError.{badCall}
 use Rattle.bits.specs.Bits.{Bits, bitsOf}
-use Rattle.bits.specs.Reader.{Answer, got, refused}
-use Rattle.bits.specs.Placed.{window, left, onward}
+use Rattle.bits.specs.Reader.{got}
+use Rattle.bits.specs.Placed.{window}
 use Rattle.bits.specs.Written.{putBits}
 use Rattle.bits.specs.WrittenLaws.{Writes, window-written, kept-before, kept-behind, length-putBits}
-use Rattle.bits.specs.declared.bitbuffer.Cursor.{Cursor}
-use Rattle.elements.specs.Table.{Counted, counted}
+use Rattle.elements.specs.Table.{counted}
 use Rattle.elements.specs.Kinds.{identifierOf, content}
-use Rattle.elements.specs.NumbersLaws.{never, both}
+use Rattle.elements.specs.NumbersLaws.{both}
 use Rattle.messages.specs.Questions.{Asked, firstNo}
 use Rattle.messages.specs.Demand3.{strict-skipping}
-use Rattle.messages.specs.Calls.{Message, messageOf, formatOf, readMessage, known, octetsMost, goodWindow, goodCall, windowOf, readingOf, reading, messageBits, messageAsked, messageNormal, SameMessage, writingRefusal, writingOf, octetsAfter, writing, octetsWritten}
+use Rattle.messages.specs.Calls.{Message, messageOf, formatOf, readMessage, known, octetsMost, goodWindow, windowOf, reading, messageBits, messageAsked, messageNormal, SameMessage, writingRefusal, writingOf, writing, octetsWritten}
 use Rattle.messages.specs.MessageLaws.{FullList}
 use Rattle.messages.specs.ReadBack.{messages-regular, normal-same, read-back}
 use Rattle.messages.specs.CallNumbers.{accepted-refused}
@@ -28,7 +26,7 @@ use Rattle.messages.specs.Demand3Calls.{call-is, window-is}
 use Rattle.messages.specs.declared.Record.{Record}
 use Rattle.messages.specs.declared.Reading.{Reading}
 use Rattle.messages.specs.declared.Writing.{Writing}
-use Rattle.messages.specs.declared.Verdict.the-variants.{Accepted, Refused}
+use Rattle.messages.specs.declared.Verdict.the-variants.{Accepted}
 
 -- ## a record that passes the questions
 

@@ -14,7 +14,7 @@ use Rattle.elements.specs.TableBack.{SlotsBack, normalSlot, normalSlots}
 use Rattle.elements.specs.Lists.{downlinks, listHeld, listNormal}
 use Rattle.elements.specs.ListsLaws.{downlinks-sound, absent-own}
 use Rattle.elements.specs.Locations.{locationDemandNormal, locationAcceptNormal}
-use Rattle.elements.specs.Kinds.{Slot, row, genericType3, genericType4, ofLocationDemand, ofLocationAccept, ofDownlinks, Element, isType3, isType4, isLocationDemand, isLocationAccept, isDownlinks, heldElement, normalOf, identifierOf, content, contentBits, elementNormal, type3Held, type3Option, type4Held, type4Option, locationDemandOption, locationAcceptOption}
+use Rattle.elements.specs.Kinds.{Kind, Slot, row, genericType3, genericType4, ofLocationDemand, ofLocationAccept, ofDownlinks, Element, isType3, isType4, isLocationDemand, isLocationAccept, isDownlinks, noElement, heldElement, normalOf, identifierOf, content, contentBits, elementNormal, type3Held, type3Option, type4Held, type4Option, locationDemandOption, locationAcceptOption}
 use Rattle.elements.specs.declared.typed_pdu_fields.Type3FieldGeneric.{Type3FieldGeneric}
 use Rattle.elements.specs.declared.typed_pdu_fields.Type4FieldGeneric.{Type4FieldGeneric}
 use Rattle.elements.specs.declared.group_identity_downlink.OptionalDownlinks.{OptionalDownlinks}
@@ -22,14 +22,14 @@ use Rattle.elements.specs.declared.group_identity_location_demand.GroupIdentity
 use Rattle.elements.specs.declared.group_identity_location_accept.GroupIdentityLocationAccept.{GroupIdentityLocationAccept}
 
 abbrev pub slotNormal : Slot → Option Element → Option Element
-slotNormal = normalSlot identifierOf content contentBits elementNormal
+slotNormal = normalSlot elementNormal
 
 abbrev pub slotsNormal : List Slot → List (Option Element) → List (Option Element)
-slotsNormal = normalSlots identifierOf content contentBits elementNormal
+slotsNormal = normalSlots elementNormal
 
 -- each slot's bits are short enough and read as its normal form
 abbrev pub SlotsRead : List Slot → List (Option Element) → Type 0
-SlotsRead = SlotsBack identifierOf content contentBits elementNormal
+SlotsRead = SlotsBack content contentBits elementNormal
 
 -- the slots that a reading of the table gives are their own normal forms
 abbrev pub SlotsOwn : List Slot → Type 0
@@ -52,27 +52,31 @@ slot-own ss vs e n h = sym (slot-at ss vs n _ h) ∙ ap (λ ws. getD ws n none) 
 module _ (i : ℕ) where
   -- ## what was written and read back
 
+  -- a field of what a slot of a kind holds, where the slot was filled with what may be absent
+  field-slot : {A O : Type 0} (k : Kind) (field : Element → O) (is : A → Element) (of : Option A → O) → field noElement ≡ of none
+      → ((a : A) → field (normalOf k (is a)) ≡ of (some a)) → (o : Option A) → field (heldElement (slotNormal (row i k) (optionMap is o))) ≡ of o
+  field-slot k field is of absent present none = absent
+  field-slot k field is of absent present (some a) = present a
+
   pub type3-slot : (o : Option Type3FieldGeneric) → heldElement (slotNormal (row i genericType3) (optionMap isType3 o)) .type3 ≡ type3Option o
   unfolding normalOf
-  type3-slot none = refl
-  type3-slot (some g) = refl
+  type3-slot = field-slot genericType3 (λ e. e .type3) isType3 type3Option refl (λ g. refl)
 
   pub type4-slot : (o : Option Type4FieldGeneric) → heldElement (slotNormal (row i genericType4) (optionMap isType4 o)) .type4 ≡ type4Option o
   unfolding normalOf
-  type4-slot none = refl
-  type4-slot (some g) = refl
+  type4-slot = field-slot genericType4 (λ e. e .type4) isType4 type4Option refl (λ g. refl)
 
   pub location-demand-slot : (o : Option GroupIdentityLocationDemand)
       → heldElement (slotNormal (row i ofLocationDemand) (optionMap isLocationDemand o)) .locationDemand ≡ locationDemandOption (optionMap locationDemandNormal o)
   unfolding normalOf
-  location-demand-slot none = refl
-  location-demand-slot (some d) = refl
+  location-demand-slot =
+      field-slot ofLocationDemand (λ e. e .locationDemand) isLocationDemand (λ o. locationDemandOption (optionMap locationDemandNormal o)) refl (λ d. refl)
 
   pub location-accept-slot : (o : Option GroupIdentityLocationAccept)
       → heldElement (slotNormal (row i ofLocationAccept) (optionMap isLocationAccept o)) .locationAccept ≡ locationAcceptOption (optionMap locationAcceptNormal o)
   unfolding normalOf
-  location-accept-slot none = refl
-  location-accept-slot (some d) = refl
+  location-accept-slot =
+      field-slot ofLocationAccept (λ e. e .locationAccept) isLocationAccept (λ o. locationAcceptOption (optionMap locationAcceptNormal o)) refl (λ d. refl)
 
   pub downlinks-slot : (l : OptionalDownlinks)
       → heldElement (slotNormal (row i ofDownlinks) (optionMap isDownlinks (listHeld downlinks l))) .downlinks ≡ listNormal downlinks l
@@ -85,35 +89,37 @@ module _ (i : ℕ) where
 
   -- ## what was read is its own normal form
 
+  -- where a slot is its own normal form, so is a field of what it holds
+  field-own : {O : Type 0} (k : Kind) (field : Element → O) (normal : O → O) → normal (field noElement) ≡ field noElement
+      → ((a : Element) → normal (field (normalOf k a)) ≡ field (normalOf k (normalOf k a)))
+      → (v : Option Element) → slotNormal (row i k) v ≡ v → normal (field (heldElement v)) ≡ field (heldElement v)
+  field-own k field normal absent present none e = absent
+  field-own k field normal absent present (some a) e = let h : normalOf k a ≡ a = cc in rw (h, h) at (present a)
+
   pub type3-own : (v : Option Element) → slotNormal (row i genericType3) v ≡ v → type3Option (type3Held (heldElement v .type3)) ≡ heldElement v .type3
   unfolding normalOf
-  type3-own none e = refl
-  type3-own (some a) e = let h : isType3 (a .type3 .value) ≡ a = cc in rw (← h)
+  type3-own = field-own genericType3 (λ e. e .type3) (λ o. type3Option (type3Held o)) refl (λ a. refl)
 
   pub type4-own : (v : Option Element) → slotNormal (row i genericType4) v ≡ v → type4Option (type4Held (heldElement v .type4)) ≡ heldElement v .type4
   unfolding normalOf
-  type4-own none e = refl
-  type4-own (some a) e = let h : isType4 (a .type4 .value) ≡ a = cc in rw (← h)
+  type4-own = field-own genericType4 (λ e. e .type4) (λ o. type4Option (type4Held o)) refl (λ a. refl)
 
   pub location-demand-own : (v : Option Element) → slotNormal (row i ofLocationDemand) v ≡ v
       → locationDemandOption (optionMap locationDemandNormal (held (heldElement v .locationDemand .present) (heldElement v .locationDemand .value)))
       ≡ heldElement v .locationDemand
   unfolding normalOf
-  location-demand-own none e = refl
-  location-demand-own (some a) e =
-      let h : isLocationDemand (locationDemandNormal (a .locationDemand .value)) ≡ a = cc in
-      rw (← h) (ap (λ (b : Element). locationDemandOption (some (locationDemandNormal (b .locationDemand .value)))) h)
+  location-demand-own =
+      field-own ofLocationDemand (λ e. e .locationDemand) (λ o. locationDemandOption (optionMap locationDemandNormal (held (o .present) (o .value)))) refl
+      (λ a. refl)
 
   pub location-accept-own : (v : Option Element) → slotNormal (row i ofLocationAccept) v ≡ v
       → locationAcceptOption (optionMap locationAcceptNormal (held (heldElement v .locationAccept .present) (heldElement v .locationAccept .value)))
       ≡ heldElement v .locationAccept
   unfolding normalOf
-  location-accept-own none e = refl
-  location-accept-own (some a) e =
-      let h : isLocationAccept (locationAcceptNormal (a .locationAccept .value)) ≡ a = cc in
-      rw (← h) (ap (λ (b : Element). locationAcceptOption (some (locationAcceptNormal (b .locationAccept .value)))) h)
+  location-accept-own =
+      field-own ofLocationAccept (λ e. e .locationAccept) (λ o. locationAcceptOption (optionMap locationAcceptNormal (held (o .present) (o .value)))) refl
+      (λ a. refl)
 
   pub downlinks-own : (v : Option Element) → slotNormal (row i ofDownlinks) v ≡ v → listNormal downlinks (heldElement v .downlinks) ≡ heldElement v .downlinks
   unfolding normalOf
-  downlinks-own none e = absent-own downlinks-sound
-  downlinks-own (some a) e = let h : isDownlinks (listNormal downlinks (a .downlinks)) ≡ a = cc in ap (λ (b : Element). b .downlinks) h
+  downlinks-own = field-own ofDownlinks (λ e. e .downlinks) (listNormal downlinks) (absent-own downlinks-sound) (λ a. refl)

@@ -31,9 +31,7 @@ use elements::typed_pdu_fields::Skipped;
 use elements::typed_pdu_fields::TYPE3;
 use elements::typed_pdu_fields::TYPE4;
 use elements::typed_pdu_fields::Table;
-use elements::typed_pdu_fields::read_table_end;
-use elements::typed_pdu_fields::scan;
-use elements::typed_pdu_fields::skip_if;
+use elements::typed_pdu_fields::scan_part;
 use elements::typed_pdu_fields::type3_of;
 use elements::typed_pdu_fields::type4_of;
 
@@ -45,6 +43,7 @@ pub struct AttachDetachHead {
     pub obit: u8,
 }
 
+#[repr(C)]
 pub struct DAttachDetachGroupIdentity {
     pub group_identity_report: u8,
     pub group_identity_acknowledgement_request: u8,
@@ -193,36 +192,28 @@ fn read_elements(
 ) -> AttachDetachRead
     ensures { λ r. ⌜ r ≡ attachDetachAnswer (at (body identifierOf content attachDetachFormat skipping head true) (now (octets .entry)) c) ⌝ }
 {
-    let a = scan(c, octets, TABLE, 0, 2, skipping, NO_GENERICS);
+    let a = scan_part(c, octets, TABLE, 0, 2, false, skipping, NO_GENERICS);
     let v = a.verdict;
     let Moved::To(c1) = v else {
         return refused(v.refusal());
     };
-    let s = skip_if(c1, octets, TABLE, skipping);
-    let Skipped::Count(n, c2) = s else {
-        return refused(s.refusal());
-    };
-    let d = read_downlinks_slot(c2, octets, GROUP_IDENTITY_DOWNLINK);
+    let d = read_downlinks_slot(c1, octets, GROUP_IDENTITY_DOWNLINK);
     let w = d.verdict;
-    let Moved::To(c3) = w else {
+    let Moved::To(c2) = w else {
         return refused(w.refusal());
     };
     let front = a.slots;
     let before = front.generics;
-    let b = scan(c3, octets, TABLE, 3, 4, skipping, before);
+    let b = scan_part(c2, octets, TABLE, 3, 4, true, skipping, before);
     let x = b.verdict;
-    let Moved::To(c4) = x else {
+    let Moved::To(c3) = x else {
         return refused(x.refusal());
-    };
-    let e = read_table_end(c4, octets, TABLE, skipping);
-    let Skipped::Count(m, c5) = e else {
-        return refused(e.refusal());
     };
     let back = b.slots;
     let generics = back.generics;
     let list = d.list;
     AttachDetachRead {
-        verdict: Skipped::Count(front.skipped + n + back.skipped + m, c5),
+        verdict: Skipped::Count(front.skipped + back.skipped, c3),
         record: record_of(head, list, generics),
     }
 }

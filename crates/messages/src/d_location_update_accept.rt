@@ -1,11 +1,15 @@
 // D-LOCATION UPDATE ACCEPT (EN 300 392-2, clause 16.9.2.7).
 ghost use mathlib.Core.Path.{_≡_};
-ghost use Rattle.bits.specs.Placed.{at, refusal};
+ghost use mathlib.Core.Bool.{true};
+ghost use Rattle.bits.specs.Placed.{at, refusal, halted};
+ghost use Rattle.elements.specs.Kinds.{identifierOf, content};
+ghost use Rattle.messages.specs.Format.{body, message};
 ghost use Rattle.messages.specs.Accept.{acceptOptions, acceptOptionsIf, acceptHead};
-ghost use Rattle.messages.specs.Calls.{noAccept};
-ghost use Rattle.messages.specs.MessageAnswers.{asAcceptOptions, asAcceptHead, acceptFrom};
+ghost use Rattle.messages.specs.Calls.{noAccept, acceptFormat};
+ghost use Rattle.messages.specs.MessageAnswers.{asAcceptOptions, asAcceptHead, acceptFrom, acceptAnswer};
 use bits::bitbuffer::Cursor;
 use bits::bitbuffer::Field8;
+use bits::bitbuffer::Moved;
 use bits::pdu_parse_error::INVALID_PDU_TYPE;
 use elements::energy_saving_information::OptionalEnergySavingInformation;
 use elements::energy_saving_information::OptionalSavingRead;
@@ -13,14 +17,33 @@ use elements::energy_saving_information::no_energy_saving;
 use elements::energy_saving_information::parse_type2_energy_saving;
 use elements::group_identity_location_accept::OptionalLocationAccept;
 use elements::group_identity_location_accept::no_location_accept;
+use elements::group_identity_location_accept::read_location_accept_slot;
 use elements::mm_pdu_type_dl::D_LOCATION_UPDATE_ACCEPT;
+use elements::type34_elem_id_dl::AUTHENTICATION_DOWNLINK;
+use elements::type34_elem_id_dl::CELL_TYPE_CONTROL;
+use elements::type34_elem_id_dl::DEFAULT_GROUP_ATTACH_LIFETIME;
+use elements::type34_elem_id_dl::GROUP_IDENTITY_LOCATION_ACCEPT;
+use elements::type34_elem_id_dl::GROUP_IDENTITY_SECURITY_RELATED_INFORMATION;
+use elements::type34_elem_id_dl::NEW_REGISTERED_AREA;
+use elements::type34_elem_id_dl::PROPRIETARY;
+use elements::type34_elem_id_dl::SECURITY_DOWNLINK;
 use elements::typed_pdu_fields::ABSENT;
 use elements::typed_pdu_fields::Generic;
+use elements::typed_pdu_fields::LOCATION_ACCEPT;
+use elements::typed_pdu_fields::NO_GENERICS;
+use elements::typed_pdu_fields::NO_NUMBER;
+use elements::typed_pdu_fields::NO_ROW;
 use elements::typed_pdu_fields::OptionalType3;
 use elements::typed_pdu_fields::OptionalType4;
 use elements::typed_pdu_fields::OptionalU64;
 use elements::typed_pdu_fields::OptionalU64Read;
+use elements::typed_pdu_fields::Row;
+use elements::typed_pdu_fields::Skipped;
+use elements::typed_pdu_fields::TYPE3;
+use elements::typed_pdu_fields::TYPE4;
+use elements::typed_pdu_fields::Table;
 use elements::typed_pdu_fields::parse_type2_generic;
+use elements::typed_pdu_fields::scan_part;
 use elements::typed_pdu_fields::type3_of;
 use elements::typed_pdu_fields::type4_of;
 
@@ -40,6 +63,7 @@ pub struct AcceptHead {
     pub options: AcceptOptions,
 }
 
+#[repr(C)]
 pub struct DLocationUpdateAccept {
     pub location_update_accept_type: u8,
     pub ssi: OptionalU64,
@@ -124,11 +148,6 @@ fn read_options(c: Cursor, octets: &[u8]) -> AcceptOptionsRead
         c5,
     )
 }
-
-const NO_NUMBER: OptionalU64 = OptionalU64 {
-    present: false,
-    value: 0,
-};
 
 // The same behind an O-bit of 1.
 fn read_options_if(c: Cursor, octets: &[u8], more: bool) -> AcceptOptionsRead
@@ -241,5 +260,112 @@ fn record_of(
         group_identity_security_related_information: type4_of(generics[5]),
         cell_type_control: type3_of(generics[6]),
         proprietary: type3_of(generics[7]),
+    }
+}
+
+// The count skipped and the place, or the refusal; and the record beside it.
+pub struct AcceptRead {
+    pub verdict: Skipped,
+    pub record: DLocationUpdateAccept,
+}
+
+// The listed elements, in order.
+const TABLE: Table = Table {
+    count: 8,
+    rows: [
+        Row {
+            identifier: NEW_REGISTERED_AREA,
+            kind: TYPE4,
+        },
+        Row {
+            identifier: SECURITY_DOWNLINK,
+            kind: TYPE3,
+        },
+        Row {
+            identifier: GROUP_IDENTITY_LOCATION_ACCEPT,
+            kind: LOCATION_ACCEPT,
+        },
+        Row {
+            identifier: DEFAULT_GROUP_ATTACH_LIFETIME,
+            kind: TYPE3,
+        },
+        Row {
+            identifier: AUTHENTICATION_DOWNLINK,
+            kind: TYPE3,
+        },
+        Row {
+            identifier: GROUP_IDENTITY_SECURITY_RELATED_INFORMATION,
+            kind: TYPE4,
+        },
+        Row {
+            identifier: CELL_TYPE_CONTROL,
+            kind: TYPE3,
+        },
+        Row {
+            identifier: PROPRIETARY,
+            kind: TYPE3,
+        },
+    ],
+};
+
+fn refused(n: u8) -> AcceptRead
+    ensures { λ r. ⌜ r ≡ acceptAnswer (halted n) ⌝ }
+{
+    AcceptRead {
+        verdict: Skipped::Refused(n),
+        record: no_accept(),
+    }
+}
+
+// The listed elements, up to the closing M-bit.
+fn read_elements(c: Cursor, octets: &[u8], head: AcceptHead, skipping: bool) -> AcceptRead
+    ensures { λ r. ⌜ r ≡ acceptAnswer (at (body identifierOf content acceptFormat skipping head true) (now (octets .entry)) c) ⌝ }
+{
+    let a = scan_part(c, octets, TABLE, 0, 2, false, skipping, NO_GENERICS);
+    let v = a.verdict;
+    let Moved::To(c1) = v else {
+        return refused(v.refusal());
+    };
+    let d = read_location_accept_slot(c1, octets, GROUP_IDENTITY_LOCATION_ACCEPT);
+    let w = d.verdict;
+    let Moved::To(c2) = w else {
+        return refused(w.refusal());
+    };
+    let front = a.slots;
+    let before = front.generics;
+    let b = scan_part(c2, octets, TABLE, 3, 8, true, skipping, before);
+    let x = b.verdict;
+    let Moved::To(c3) = x else {
+        return refused(x.refusal());
+    };
+    let back = b.slots;
+    let generics = back.generics;
+    let location = d.location;
+    AcceptRead {
+        verdict: Skipped::Count(front.skipped + back.skipped, c3),
+        record: record_of(head, location, generics),
+    }
+}
+
+impl DLocationUpdateAccept {
+    // The message: its head, and behind an O-bit of 1 its listed elements.
+    pub fn from_bitbuf(c: Cursor, octets: &[u8], skipping: bool) -> AcceptRead
+        ensures { λ r. ⌜ r ≡ acceptAnswer (at (message identifierOf content acceptFormat skipping) (now (octets .entry)) c) ⌝ }
+    {
+        let h = read_head(c, octets);
+        let AcceptHeadRead::Read(head, c1) = h else {
+            return refused(h.refusal());
+        };
+        if head.obit == 1 {
+            return read_elements(c1, octets, head, skipping);
+        }
+        let none = OptionalLocationAccept {
+            present: false,
+            value: no_location_accept(),
+        };
+        AcceptRead {
+            verdict: Skipped::Count(0, c1),
+            record: record_of(head, none, NO_GENERICS),
+        }
     }
 }

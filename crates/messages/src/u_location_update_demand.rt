@@ -1,11 +1,15 @@
 // U-LOCATION UPDATE DEMAND (EN 300 392-2, clause 16.9.3.4).
 ghost use mathlib.Core.Path.{_≡_};
-ghost use Rattle.bits.specs.Placed.{at, refusal};
+ghost use mathlib.Core.Bool.{true};
+ghost use Rattle.bits.specs.Placed.{at, refusal, halted};
+ghost use Rattle.elements.specs.Kinds.{identifierOf, content};
+ghost use Rattle.messages.specs.Format.{body, message};
 ghost use Rattle.messages.specs.Demand.{demandOptions, demandOptionsIf, demandHead};
-ghost use Rattle.messages.specs.Calls.{noDemand};
-ghost use Rattle.messages.specs.MessageAnswers.{asDemandOptions, asDemandHead, demandFrom};
+ghost use Rattle.messages.specs.Calls.{noDemand, demandFormat};
+ghost use Rattle.messages.specs.MessageAnswers.{asDemandOptions, asDemandHead, demandFrom, demandAnswer};
 use bits::bitbuffer::Cursor;
 use bits::bitbuffer::Field8;
+use bits::bitbuffer::Moved;
 use bits::pdu_parse_error::INVALID_PDU_TYPE;
 use elements::class_of_ms::ClassRead;
 use elements::class_of_ms::OptionalClassOfMs;
@@ -13,17 +17,33 @@ use elements::class_of_ms::no_class_of_ms;
 use elements::class_of_ms::parse_type2_class_of_ms;
 use elements::group_identity_location_demand::OptionalLocationDemand;
 use elements::group_identity_location_demand::no_location_demand;
+use elements::group_identity_location_demand::read_location_demand_slot;
 use elements::mm_pdu_type_ul::U_LOCATION_UPDATE_DEMAND;
+use elements::type34_elem_id_ul::AUTHENTICATION_UPLINK;
+use elements::type34_elem_id_ul::EXTENDED_CAPABILITIES;
+use elements::type34_elem_id_ul::GROUP_IDENTITY_LOCATION_DEMAND;
+use elements::type34_elem_id_ul::GROUP_REPORT_RESPONSE;
+use elements::type34_elem_id_ul::PROPRIETARY;
 use elements::typed_pdu_fields::ABSENT;
 use elements::typed_pdu_fields::Generic;
+use elements::typed_pdu_fields::LOCATION_DEMAND;
+use elements::typed_pdu_fields::NO_GENERICS;
+use elements::typed_pdu_fields::NO_NUMBER;
+use elements::typed_pdu_fields::NO_ROW;
 use elements::typed_pdu_fields::OptionalType3;
 use elements::typed_pdu_fields::OptionalU8;
 use elements::typed_pdu_fields::OptionalU8Read;
 use elements::typed_pdu_fields::OptionalU64;
 use elements::typed_pdu_fields::OptionalU64Read;
+use elements::typed_pdu_fields::Row;
+use elements::typed_pdu_fields::Skipped;
+use elements::typed_pdu_fields::TYPE3;
+use elements::typed_pdu_fields::Table;
 use elements::typed_pdu_fields::parse_type2_generic;
 use elements::typed_pdu_fields::parse_type2_u8;
 use elements::typed_pdu_fields::read_optional_u64;
+use elements::typed_pdu_fields::scan_part;
+use elements::typed_pdu_fields::skip_if;
 use elements::typed_pdu_fields::type3_of;
 
 // The type 2 elements.
@@ -45,6 +65,7 @@ pub struct DemandHead {
     pub options: DemandOptions,
 }
 
+#[repr(C)]
 pub struct ULocationUpdateDemand {
     pub location_update_type: u8,
     pub request_to_append_la: u8,
@@ -132,11 +153,6 @@ fn read_options(c: Cursor, octets: &[u8]) -> DemandOptionsRead
         c5,
     )
 }
-
-const NO_NUMBER: OptionalU64 = OptionalU64 {
-    present: false,
-    value: 0,
-};
 
 const NO_MODE: OptionalU8 = OptionalU8 {
     present: false,
@@ -270,5 +286,100 @@ fn record_of(
         authentication_uplink: type3_of(generics[2]),
         extended_capabilities: type3_of(generics[3]),
         proprietary: type3_of(generics[4]),
+    }
+}
+
+// The count skipped and the place, or the refusal; and the record beside it.
+pub struct DemandRead {
+    pub verdict: Skipped,
+    pub record: ULocationUpdateDemand,
+}
+
+// The listed elements, in order.
+const TABLE: Table = Table {
+    count: 5,
+    rows: [
+        Row {
+            identifier: GROUP_IDENTITY_LOCATION_DEMAND,
+            kind: LOCATION_DEMAND,
+        },
+        Row {
+            identifier: GROUP_REPORT_RESPONSE,
+            kind: TYPE3,
+        },
+        Row {
+            identifier: AUTHENTICATION_UPLINK,
+            kind: TYPE3,
+        },
+        Row {
+            identifier: EXTENDED_CAPABILITIES,
+            kind: TYPE3,
+        },
+        Row {
+            identifier: PROPRIETARY,
+            kind: TYPE3,
+        },
+        NO_ROW,
+        NO_ROW,
+        NO_ROW,
+    ],
+};
+
+fn refused(n: u8) -> DemandRead
+    ensures { λ r. ⌜ r ≡ demandAnswer (halted n) ⌝ }
+{
+    DemandRead {
+        verdict: Skipped::Refused(n),
+        record: no_demand(),
+    }
+}
+
+// The listed elements, up to the closing M-bit: no slot stands before the location demand.
+fn read_elements(c: Cursor, octets: &[u8], head: DemandHead, skipping: bool) -> DemandRead
+    ensures { λ r. ⌜ r ≡ demandAnswer (at (body identifierOf content demandFormat skipping head true) (now (octets .entry)) c) ⌝ }
+{
+    let s = skip_if(c, octets, TABLE, skipping);
+    let Skipped::Count(n, c1) = s else {
+        return refused(s.refusal());
+    };
+    let d = read_location_demand_slot(c1, octets, GROUP_IDENTITY_LOCATION_DEMAND);
+    let w = d.verdict;
+    let Moved::To(c2) = w else {
+        return refused(w.refusal());
+    };
+    let b = scan_part(c2, octets, TABLE, 1, 5, true, skipping, NO_GENERICS);
+    let x = b.verdict;
+    let Moved::To(c3) = x else {
+        return refused(x.refusal());
+    };
+    let back = b.slots;
+    let generics = back.generics;
+    let location = d.location;
+    DemandRead {
+        verdict: Skipped::Count(n + back.skipped, c3),
+        record: record_of(head, location, generics),
+    }
+}
+
+impl ULocationUpdateDemand {
+    // The message: its head, and behind an O-bit of 1 its listed elements.
+    pub fn from_bitbuf(c: Cursor, octets: &[u8], skipping: bool) -> DemandRead
+        ensures { λ r. ⌜ r ≡ demandAnswer (at (message identifierOf content demandFormat skipping) (now (octets .entry)) c) ⌝ }
+    {
+        let h = read_head(c, octets);
+        let DemandHeadRead::Read(head, c1) = h else {
+            return refused(h.refusal());
+        };
+        if head.obit == 1 {
+            return read_elements(c1, octets, head, skipping);
+        }
+        let none = OptionalLocationDemand {
+            present: false,
+            value: no_location_demand(),
+        };
+        DemandRead {
+            verdict: Skipped::Count(0, c1),
+            record: record_of(head, none, NO_GENERICS),
+        }
     }
 }

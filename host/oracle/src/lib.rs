@@ -4,7 +4,7 @@
 pub mod bit_trials;
 mod panics;
 
-pub use panics::Panic;
+pub use panics::{Panic, catch};
 
 use tetra_core::BitBuffer;
 use tetra_core::pdu_parse_error::PduParseErr;
@@ -75,7 +75,7 @@ pub enum Fault {
 
 impl Fault {
     /// Document 01's number, if it knows one for this fault of a strict reading.
-    fn read_refusal(&self) -> Option<Refusal> {
+    pub fn read_refusal(&self) -> Option<Refusal> {
         match self {
             Self::OutsideLimits => Some(1),
             Self::Error(PduParseErr::BufferEnded { .. }) => Some(2),
@@ -106,14 +106,15 @@ pub struct Read {
 ///
 /// Panics, naming the input, if the original does what document 01 knows no number for.
 pub fn read(message: u64, octets: &[u8], first: usize, end: usize) -> Result<Read, Refusal> {
-    read_original(message, octets, first, end).map_err(|fault| {
+    answer(message, octets, first, end).map_err(|fault| {
         fault.read_refusal().unwrap_or_else(|| {
             panic!("{fault:?}: message {message}, octets {octets:02x?}, bits {first}..{end}")
         })
     })
 }
 
-fn read_original(message: u64, octets: &[u8], first: usize, end: usize) -> Result<Read, Fault> {
+/// The same, a refusal as the original gives it.
+pub fn answer(message: u64, octets: &[u8], first: usize, end: usize) -> Result<Read, Fault> {
     let message = Message::from_number(message).ok_or(Fault::OutsideLimits)?;
     let mut buffer = window(octets, first, end).ok_or(Fault::OutsideLimits)?;
     let record = call(|| Record::from_bitbuf(message, &mut buffer))?;

@@ -5,8 +5,8 @@ use Rattle.bits.specs.PlacedLaws.{so, by, by-refusal, step, stop, done}
 use Rattle.elements.specs.ClassOfMsLaws.{class-local, class-there, class-ended}
 use borrow.Author.Tests.{eq-eqb, ne-eqb}
 use mathlib.Core.Path.{ap}
-use Rattle.bits.specs.ReaderLaws.{local·rules, local-tail}
-use Rattle.elements.specs.PlacedOptional.{wanted, unwanted}
+use Rattle.bits.specs.ReaderLaws.{local-tail}
+use Rattle.elements.specs.PlacedOptional.{wanted, unwanted, type2-there, type2-ended}
 use borrow.Author.Needs.{needs}
 use Rattle.elements.proofs.class_of_ms.parse_type2_class_of_ms.Statement.{statement}
 use Rattle.elements.proofs.class_of_ms.parse_type2_class_of_ms.Tie as tie
@@ -26,7 +26,7 @@ refusal-requires c κs = search needs
 returns : tie.Need-returns
 unfolding word
 returns c =
-    so (stop _ (by-refusal (c .before .before .before .read-u8 .ensures) (ap asField8 (c .before .enum-told .given .1)) (c .refusal .ensures)))
+    so (type2-ended _ _ (by-refusal (c .before .before .before .read-u8 .ensures) (ap asField8 (c .before .enum-told .given .1)) (c .refusal .ensures)))
 
 read-u32-requires : tie.Need-read-u32-requires
 read-u32-requires c κs = search needs
@@ -44,8 +44,8 @@ returns-2 : tie.Need-returns-2
 unfolding word
 returns-2 c =
     so
-    (step _
-    (by (c .before .before .before .before .before .before .before .before .read-u8 .ensures) (ap asField8 (c .before .before .before .before .before .before .f .given .1))) (search local·rules)
+    (type2-there _ _
+    (by (c .before .before .before .before .before .before .before .before .read-u8 .ensures) (ap asField8 (c .before .before .before .before .before .before .f .given .1)))
     (wanted _ _ _ (eq-eqb _ _ (c .before .before .before .before .if1 .taken))
     (stop _ (class-ended (by-refusal (c .before .before .before .read-u32 .ensures) (ap asField32 (c .before .enum-told2 .given .1)) (c .refusal2 .ensures))))))
 
@@ -57,8 +57,8 @@ unfolding word
 returns-3 c =
     rw (c .fields .ensures)
     (so
-    (step _
-    (by (c .before .before .before .before .before .before .before .before .before .read-u8 .ensures) (ap asField8 (c .before .before .before .before .before .before .before .f .given .1))) (search local·rules)
+    (type2-there _ _
+    (by (c .before .before .before .before .before .before .before .before .before .read-u8 .ensures) (ap asField8 (c .before .before .before .before .before .before .before .f .given .1)))
     (wanted _ _ _ (eq-eqb _ _ (c .before .before .before .before .before .if1 .taken))
     (step _ (class-there (by (c .before .before .before .before .read-u32 .ensures) (ap asField32 (c .before .before .w .given .1)))) (local-tail class-local) done))))
 
@@ -66,7 +66,7 @@ returns-4 : tie.Need-returns-4
 unfolding word
 returns-4 c =
     so
-    (step _ (by (c .before .before .before .before .read-u8 .ensures) (ap asField8 (c .before .before .f .given .1))) (search local·rules)
+    (type2-there _ _ (by (c .before .before .before .before .read-u8 .ensures) (ap asField8 (c .before .before .f .given .1)))
     (unwanted _ _ _ (ne-eqb _ _ (c .if1 .left))))
 
 pub parse-type2-class-of-ms-spec : {M : Type 1} → statement M

@@ -2,9 +2,9 @@
 use mathlib.Core.Path.{refl, ap}
 use borrow.Author.Needs.{needs}
 use Rattle.bits.specs.Reader.{word}
-use Rattle.bits.specs.ReaderLaws.{local·rules}
 use Rattle.bits.specs.Placed.{asField8}
-use Rattle.bits.specs.PlacedLaws.{so, by, by-refusal, step, stop}
+use Rattle.bits.specs.PlacedLaws.{so, by, by-refusal}
+use Rattle.elements.specs.PlacedOptional.{type2-there, type2-ended}
 use Rattle.elements.proofs.typed_pdu_fields.parse_type2_generic.Statement.{statement}
 use Rattle.elements.proofs.typed_pdu_fields.parse_type2_generic.Tie as tie
 
@@ -23,7 +23,7 @@ refusal-requires c κs = search needs
 returns : tie.Need-returns
 unfolding word
 returns c =
-    so (stop _ (by-refusal (c .before .before .before .read-u8 .ensures) (ap asField8 (c .before .enum-told .given .1)) (c .refusal .ensures)))
+    so (type2-ended _ _ (by-refusal (c .before .before .before .read-u8 .ensures) (ap asField8 (c .before .enum-told .given .1)) (c .refusal .ensures)))
 
 read-optional-u64-requires : tie.Need-read-optional-u64-requires
 read-optional-u64-requires c κs = search needs
@@ -31,7 +31,7 @@ read-optional-u64-requires c κs = search needs
 returns-2 : tie.Need-returns-2
 unfolding word
 returns-2 c =
-    so (step _ (by (c .before .before .before .before .read-u8 .ensures) (ap asField8 (c .before .before .f .given .1))) (search local·rules) (by (c .read-optional-u64 .ensures) refl))
+    so (type2-there _ _ (by (c .before .before .before .before .read-u8 .ensures) (ap asField8 (c .before .before .f .given .1))) (by (c .read-optional-u64 .ensures) refl))
 
 pub parse-type2-generic-spec : {M : Type 1} → statement M
 parse-type2-generic-spec =

@@ -5,7 +5,7 @@ use borrow.Author.Needs.{needs}
 use Rattle.bits.specs.PduParseError.{type4Underflow}
 use Rattle.bits.specs.Reader.{word}
 use Rattle.bits.specs.ReaderLaws.{local·rules}
-use Rattle.bits.specs.Placed.{asField}
+use Rattle.bits.specs.Placed.{asField, asField8, asField32}
 use Rattle.bits.specs.PlacedLaws.{by, by-refusal, step, stop, done}
 use Rattle.bits.specs.PlacedTimes.{passed, failed}
 use Rattle.elements.specs.Generics.{type4}
@@ -15,8 +15,8 @@ use Rattle.elements.specs.Verdicts.{answer}
 use Rattle.elements.proofs.typed_pdu_fields.parse_type4_generic.Statement.{statement}
 use Rattle.elements.proofs.typed_pdu_fields.parse_type4_generic.Tie as tie
 
-read-requires : tie.Need-read-requires
-read-requires c κs = search needs
+read-u32-requires : tie.Need-read-u32-requires
+read-u32-requires c κs = search needs
 
 enum-known-f : tie.Need-enum-known-f
 enum-known-f c = search needs
@@ -30,10 +30,10 @@ refusal-requires c κs = search needs
 returns : tie.Need-returns
 unfolding type4 word
 returns c =
-    answer genericAnswer (stop _ (by-refusal (c .before .before .before .read .ensures) (ap asField (c .before .enum-told .given .1)) (c .refusal .ensures)))
+    answer genericAnswer (stop _ (by-refusal (c .before .before .before .read-u32 .ensures) (ap asField32 (c .before .enum-told .given .1)) (c .refusal .ensures)))
 
-read-requires-2 : tie.Need-read-requires-2
-read-requires-2 c κs = search needs
+read-u8-requires : tie.Need-read-u8-requires
+read-u8-requires c κs = search needs
 
 enum-known-k : tie.Need-enum-known-k
 enum-known-k c = search needs
@@ -48,20 +48,20 @@ returns-2 : tie.Need-returns-2
 unfolding type4 word
 returns-2 c =
     answer genericAnswer
-    (step _ (by (c .before .before .before .before .before .before .before .read .ensures) (ap asField (c .before .before .before .before .before .f .given .1))) (search local·rules)
-    (stop _ (stop _ (by-refusal (c .before .before .before .read2 .ensures) (ap asField (c .before .enum-told2 .given .1)) (c .refusal2 .ensures)))))
+    (step _ (by (c .before .before .before .before .before .before .before .read-u32 .ensures) (ap asField32 (c .before .before .before .before .before .f .given .1))) (search local·rules)
+    (stop _ (stop _ (by-refusal (c .before .before .before .read-u8 .ensures) (ap asField8 (c .before .enum-told2 .given .1)) (c .refusal2 .ensures)))))
 
 returns-3 : tie.Need-returns-3
 unfolding type4 word
 returns-3 c =
     answer genericAnswer
-    (step _ (by (c .before .before .before .before .before .before .before .before .read .ensures) (ap asField (c .before .before .before .before .before .before .f .given .1))) (search local·rules)
+    (step _ (by (c .before .before .before .before .before .before .before .before .read-u32 .ensures) (ap asField32 (c .before .before .before .before .before .before .f .given .1))) (search local·rules)
     (stop _
-    (step _ (by (c .before .before .before .before .read2 .ensures) (ap asField (c .before .before .k .given .1))) (search local·rules)
+    (step _ (by (c .before .before .before .before .read-u8 .ensures) (ap asField8 (c .before .before .k .given .1))) (search local·rules)
     (stop _ (failed type4Underflow (lt-leb _ _ (c .if1 .taken)))))))
 
-sub-n : tie.Need-sub-n
-sub-n c = search needs
+cast-read-kept : tie.Need-cast-read-kept
+cast-read-kept c = search needs
 
 read-kept-requires : tie.Need-read-kept-requires
 read-kept-requires c κs = search needs
@@ -79,9 +79,9 @@ returns-4 : tie.Need-returns-4
 unfolding type4 word
 returns-4 c =
     answer genericAnswer
-    (step _ (by (c .before .before .before .before .before .before .before .before .before .before .before .before .read .ensures) (ap asField (c .before .before .before .before .before .before .before .before .before .before .f .given .1))) (search local·rules)
+    (step _ (by (c .before .before .before .before .before .before .before .before .before .before .before .before .read-u32 .ensures) (ap asField32 (c .before .before .before .before .before .before .before .before .before .before .f .given .1))) (search local·rules)
     (stop _
-    (step _ (by (c .before .before .before .before .before .before .before .before .read2 .ensures) (ap asField (c .before .before .before .before .before .before .k .given .1))) (search local·rules)
+    (step _ (by (c .before .before .before .before .before .before .before .before .read-u8 .ensures) (ap asField8 (c .before .before .before .before .before .before .k .given .1))) (search local·rules)
     (step _ (passed type4Underflow (le-leb _ _ (c .before .before .before .before .if1 .left))) (search local·rules)
     (stop _ (by-refusal (c .before .before .before .read-kept .ensures) (ap asField (c .before .enum-told3 .given .1)) (c .refusal3 .ensures)))))))
 
@@ -89,9 +89,9 @@ returns-5 : tie.Need-returns-5
 unfolding type4 word
 returns-5 c =
     answer genericAnswer
-    (step _ (by (c .before .before .before .before .before .before .before .before .before .before .before .before .read .ensures) (ap asField (c .before .before .before .before .before .before .before .before .before .before .f .given .1))) (search local·rules)
+    (step _ (by (c .before .before .before .before .before .before .before .before .before .before .before .before .read-u32 .ensures) (ap asField32 (c .before .before .before .before .before .before .before .before .before .before .f .given .1))) (search local·rules)
     (step _
-    (step _ (by (c .before .before .before .before .before .before .before .before .read2 .ensures) (ap asField (c .before .before .before .before .before .before .k .given .1))) (search local·rules)
+    (step _ (by (c .before .before .before .before .before .before .before .before .read-u8 .ensures) (ap asField8 (c .before .before .before .before .before .before .k .given .1))) (search local·rules)
     (step _ (passed type4Underflow (le-leb _ _ (c .before .before .before .before .if1 .left))) (search local·rules)
     (step _ (by (c .before .before .before .read-kept .ensures) (ap asField (c .before .d .given .1))) (search (local·rules, kept-local)) done)))
     (search (local·rules, kept-local) depth 8) done))
@@ -100,18 +100,18 @@ pub parse-type4-generic-spec : {M : Type 1} → statement M
 parse-type4-generic-spec =
     tie.close
     (tie.spec
-    read-requires
+    read-u32-requires
     enum-known-f
     enum-told
     refusal-requires
     returns
-    read-requires-2
+    read-u8-requires
     enum-known-k
     enum-told-2
     refusal-requires-2
     returns-2
     returns-3
-    sub-n
+    cast-read-kept
     read-kept-requires
     enum-known-d
     enum-told-3

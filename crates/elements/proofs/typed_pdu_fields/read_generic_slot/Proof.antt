@@ -14,8 +14,8 @@ use Rattle.bits.specs.PlacedLaws.{Gives, by, by-refusal, done}
 use Rattle.bits.specs.PlacedTimes.{alike}
 use Rattle.elements.specs.Generics.{type3, type4}
 use Rattle.elements.specs.Kinds.{absentType3, absentType4, isType3, isType4, contentOf, identifierOf, content}
-use Rattle.elements.specs.Rows.{sized, fromType3, fromType4, genericType3At, genericType4At, isType4Row, genericRow, genericIn, genericSlot}
-use Rattle.elements.specs.Answers.{asOptionalU8, noGeneric, genericAnswer}
+use Rattle.elements.specs.Rows.{sized, fromType3, fromType4, genericType3At, genericType4At, isType4Row, genericRow, genericIn, genericSlot, noGeneric}
+use Rattle.elements.specs.Answers.{asOptionalU8, genericAnswer}
 use Rattle.elements.specs.Verdicts.{answer}
 use Rattle.elements.specs.PlacedTable.{sized-made, slot-outside, slot-ends, slot-other, slot-there}
 use Rattle.elements.specs.declared.typed_pdu_fields.Row.{Row}

@@ -1,5 +1,6 @@
 -- `elements::typed_pdu_fields::read_table_end` meets its contract. Assumes nothing.
 use mathlib.Core.Path.{ap}
+use mathlib.Core.Bool.{true}
 use borrow.Author.Needs.{needs}
 use Rattle.bits.specs.ReaderLaws.{local·rules}
 use Rattle.bits.specs.Placed.{asMoved}
@@ -11,8 +12,8 @@ use Rattle.elements.specs.Answers.{asSkipped}
 use Rattle.elements.proofs.typed_pdu_fields.read_table_end.Statement.{statement}
 use Rattle.elements.proofs.typed_pdu_fields.read_table_end.Tie as tie
 
-skip-if-requires : tie.Need-skip-if-requires
-skip-if-requires c κs = search needs
+skip-unlisted-requires : tie.Need-skip-unlisted-requires
+skip-unlisted-requires c κs = search needs
 
 enum-known-s : tie.Need-enum-known-s
 enum-known-s c = search needs
@@ -22,7 +23,7 @@ enum-told c = search needs
 
 returns : tie.Need-returns
 returns c =
-    rw (c .enum-told .given .1) (so (stop _ (by (c .before .before .skip-if .ensures) (ap asSkipped (c .enum-told .given .1)))))
+    rw (c .enum-told .given .1, c .before .before .before .if1 .taken) (so (stop _ (by (c .before .before .skip-unlisted .ensures) (ap asSkipped (c .enum-told .given .1)))))
 
 read-closing-mbit-requires : tie.Need-read-closing-mbit-requires
 read-closing-mbit-requires c κs = search needs
@@ -38,19 +39,41 @@ refusal-requires c κs = search needs
 
 returns-2 : tie.Need-returns-2
 returns-2 c =
-    so (step _ (by (c .before .before .before .before .before .before .before .skip-if .ensures) (ap asSkipped (c .before .before .before .before .before .s .given .1))) (skipping-tail (rowsOf (c .before .before .before .before .before .before .before .before .before .args .table)) (c .before .before .before .before .before .before .before .before .before .args .wanted))
-    (stop _ (by-refusal (c .before .before .before .read-closing-mbit .ensures) (ap asMoved (c .before .enum-told2 .given .1)) (c .refusal .ensures))))
+    rw (c .before .before .before .before .before .before .before .before .if1 .taken)
+    (so (step _ (by (c .before .before .before .before .before .before .before .skip-unlisted .ensures) (ap asSkipped (c .before .before .before .before .before .s .given .1))) (skipping-tail (rowsOf (c .before .before .before .before .before .before .before .before .before .before .args .table)) true)
+    (stop _ (by-refusal (c .before .before .before .read-closing-mbit .ensures) (ap asMoved (c .before .enum-told2 .given .1)) (c .refusal .ensures)))))
 
 returns-3 : tie.Need-returns-3
 returns-3 c =
-    so (step _ (by (c .before .before .before .before .before .before .before .skip-if .ensures) (ap asSkipped (c .before .before .before .before .before .s .given .1))) (skipping-tail (rowsOf (c .before .before .before .before .before .before .before .before .before .args .table)) (c .before .before .before .before .before .before .before .before .before .args .wanted))
-    (step _ (by (c .before .before .before .read-closing-mbit .ensures) (ap asMoved (c .before .m .given .1))) (search (local·rules, closing-local)) done))
+    rw (c .before .before .before .before .before .before .before .before .if1 .taken)
+    (so (step _ (by (c .before .before .before .before .before .before .before .skip-unlisted .ensures) (ap asSkipped (c .before .before .before .before .before .s .given .1))) (skipping-tail (rowsOf (c .before .before .before .before .before .before .before .before .before .before .args .table)) true)
+    (step _ (by (c .before .before .before .read-closing-mbit .ensures) (ap asMoved (c .before .m .given .1))) (search (local·rules, closing-local)) done)))
+
+read-closing-mbit-requires-2 : tie.Need-read-closing-mbit-requires-2
+read-closing-mbit-requires-2 c κs = search needs
+
+enum-known-m-2 : tie.Need-enum-known-m-2
+enum-known-m-2 c = search needs
+
+enum-told-3 : tie.Need-enum-told-3
+enum-told-3 c = search needs
+
+refusal-requires-2 : tie.Need-refusal-requires-2
+refusal-requires-2 c κs = search needs
+
+returns-4 : tie.Need-returns-4
+returns-4 c =
+    rw (c .before .before .before .before .if1 .left) (so (stop _ (by-refusal (c .before .before .before .read-closing-mbit2 .ensures) (ap asMoved (c .before .enum-told3 .given .1)) (c .refusal2 .ensures))))
+
+returns-5 : tie.Need-returns-5
+returns-5 c =
+    rw (c .before .before .before .before .if1 .left) (so (step _ (by (c .before .before .before .read-closing-mbit2 .ensures) (ap asMoved (c .before .m2 .given .1))) (search (local·rules, closing-local)) done))
 
 pub read-table-end-spec : {M : Type 1} → statement M
 read-table-end-spec =
     tie.close
     (tie.spec
-    skip-if-requires
+    skip-unlisted-requires
     enum-known-s
     enum-told
     returns
@@ -59,4 +82,10 @@ read-table-end-spec =
     enum-told-2
     refusal-requires
     returns-2
-    returns-3)
+    returns-3
+    read-closing-mbit-requires-2
+    enum-known-m-2
+    enum-told-3
+    refusal-requires-2
+    returns-4
+    returns-5)

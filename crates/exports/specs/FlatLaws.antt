@@ -1,0 +1,92 @@
+-- Octets put one part after the other.
+use Prim.Native.Nat.{ℕ, zero, suc, _+_, _-_, _*_, _/_, _%_, _^_, _≤_, _<_, min}
+use native.Mathlib.Nat.{mul-zero, mul-suc, add-comm}
+use native.Mathlib.Omega.{arith}
+use mathlib.Core.Path.{_≡_, refl, sym, ap, _∙_}
+use mathlib.Core.Bool.{Bool, true, false, cond}
+use mathlib.Core.List.{List, [], _∷_, _++_, append-nil, append-assoc}
+use lib.ListN.{length, length-append, length-take, set, take, getD}
+use lib.Dec.{leb}
+use lib.Seq.{sets, length-sets, take-all}
+use borrow.Author.Tests.{leb-true, leb-false}
+use Rattle.exports.specs.Flat.{highFirst, flatEach, shown}
+
+-- the octets xs are put into f from `at` on, which makes g; `to` is the place behind them
+pub record Put (f : List ℕ) (at : ℕ) (xs : List ℕ) (g : List ℕ) (to : ℕ) : Type 0 where
+  pub octets : g ≡ sets f at xs
+  pub next : to ≡ at + length xs
+  pub long : length g ≡ length f
+
+pub put : {f : List ℕ} {at : ℕ} {xs g : List ℕ} {to : ℕ} → g ≡ sets f at xs → to ≡ at + length xs → Put f at xs g to
+put {f} {at} {xs} e n = record { octets = e; next = n; long = ap length e ∙ length-sets f at xs }
+
+sets-sets : (f : List ℕ) (at : ℕ) (xs ys : List ℕ) → sets (sets f at xs) (at + length xs) ys ≡ sets f at (xs ++ ys)
+sets-sets f at [] ys = let z : at + 0 ≡ at = omega arith in rw z
+sets-sets f at (x ∷ xs) ys = let z : at + suc (length xs) ≡ suc at + length xs = omega arith in rw z (sets-sets (set f at x) (suc at) xs ys)
+
+infixr 5 _⨟_
+pub _⨟_ : {f g h : List ℕ} {at to end : ℕ} {xs ys : List ℕ} → Put f at xs g to → Put g to ys h end → Put f at (xs ++ ys) h end
+_⨟_ {f} {g} {h} {at} {to} {end} {xs} {ys} p q = put
+    (q .octets ∙ ap (λ (k : ℕ). sets g k ys) (p .next) ∙ ap (λ (l : List ℕ). sets l (at + length xs) ys) (p .octets) ∙ sets-sets f at xs ys)
+    (q .next ∙ (omega (arith, p .next, length-append xs ys)))
+
+-- a number of which n octets are left: the first of them, and the others
+pub number-turn : (f : List ℕ) (at v n : ℕ) → 0 < n → n ≤ 8
+    → sets f (at + (8 - n)) (highFirst n v) ≡ sets (set f (at + (7 - (n - 1))) (v / 2 ^ (8 * (n - 1)) % 256)) (at + (8 - (n - 1))) (highFirst (n - 1) v)
+number-turn f at v zero p q = absurd (omega arith)
+number-turn f at v (suc k) p q =
+    let less : suc k - 1 ≡ k = omega arith in
+    let here : 8 - suc k ≡ 7 - k = omega arith in
+    let next : at + (8 - k) ≡ suc (at + (7 - k)) = omega arith in
+    rw (less, here, next)
+
+-- ## things one after the other
+
+module _ {G : Type 0} (flat : G → List ℕ) where
+  pub none-put : (f : List ℕ) (at : ℕ) (gs : List G) → Put f at (flatEach flat (take 0 gs)) f at
+  none-put f at gs = put refl (omega arith)
+
+  each-more : (gs : List G) (i : ℕ) (d : G) → i < length gs → flatEach flat (take (suc i) gs) ≡ flatEach flat (take i gs) ++ flat (getD gs i d)
+  each-more [] i d h = absurd (omega arith)
+  each-more (g ∷ gs) zero d h = append-nil (flat g)
+  each-more (g ∷ gs) (suc i) d h =
+      ap (λ (xs : List ℕ). flat g ++ xs) (each-more gs i d (omega arith)) ∙ sym (append-assoc (flat g) (flatEach flat (take i gs)) (flat (getD gs i d)))
+
+  -- one more
+  pub one-put : {f g h : List ℕ} {at to end : ℕ} (gs : List G) (i : ℕ) (d : G) → i < length gs
+      → Put f at (flatEach flat (take i gs)) g to → Put g to (flat (getD gs i d)) h end → Put f at (flatEach flat (take (i + 1) gs)) h end
+  one-put gs i d h p q = let z : i + 1 ≡ suc i = omega arith in rw (z, each-more gs i d h) (p ⨟ q)
+
+  -- all of them
+  pub all-put : {f g : List ℕ} {at to : ℕ} (gs hs : List G) (i : ℕ) → take i gs ≡ hs → Put f at (flatEach flat (take i gs)) g to → Put f at (flatEach flat hs) g to
+  all-put gs hs i e p = rw (← e) p
+
+-- as many as there are
+pub take-most : {G : Type 0} (n m : ℕ) (gs : List G) → length gs ≡ m → take (min n m) gs ≡ take n gs
+take-most n m gs e = go (leb n m) refl
+  where
+    go : (b : Bool) → leb n m ≡ b → take (min n m) gs ≡ take n gs
+    go true h = let l = leb-true n m h in let z : min n m ≡ n = omega arith in rw z
+    go false h =
+        let l = leb-false n m h in
+        let z : min n m ≡ m = omega arith in
+        rw z (take-all m gs (omega arith) ∙ sym (take-all n gs (omega arith)))
+
+-- what is put where the test holds
+module _ {f g : List ℕ} {at to : ℕ} {ys : List ℕ} (p : Put f at ys g to) (b : Bool) (xs : List ℕ) where
+  pub put-if : {h : List ℕ} {end : ℕ} → b ≡ true → Put g to xs h end → Put f at (ys ++ cond b xs []) h end
+  put-if e q = rw e (p ⨟ q)
+
+  pub put-not : b ≡ false → Put f at (ys ++ cond b xs []) g to
+  put-not e = rw (e, append-nil ys) p
+
+-- ## how long a list is
+
+module _ {G : Type 0} (flat : G → List ℕ) (w : ℕ) (long : (g : G) → length (flat g) ≡ w) where
+  length-each : (gs : List G) → length (flatEach flat gs) ≡ w * length gs
+  length-each [] = sym (mul-zero w)
+  length-each (g ∷ gs) = length-append (flat g) (flatEach flat gs) ∙ rw (long g, length-each gs, mul-suc w (length gs)) (add-comm w (w * length gs))
+
+  pub length-shown : (p : Bool) (n : ℕ) (gs : List G) → length gs ≡ 63 → length (cond p (flatEach flat (take n gs)) []) ≡ w * shown p n
+  length-shown true n gs e = length-each (take n gs) ∙ ap (λ (k : ℕ). w * k) (length-take n gs ∙ ap (λ (k : ℕ). min n k) e)
+  length-shown false n gs e = sym (mul-zero w)

@@ -1,0 +1,67 @@
+-- `messages::u_location_update_demand::ULocationUpdateDemand::from_bitbuf` meets its contract: the head, then the elements or none.
+use mathlib.Core.Path.{refl, ap, _∙_}
+use borrow.Author.Tests.{eq-eqb, ne-eqb}
+use Rattle.bits.specs.ReaderLaws.{local-tail}
+use Rattle.bits.specs.PlacedLaws.{by, by-refusal}
+use Rattle.elements.specs.Verdicts.{answer}
+use Rattle.messages.specs.Calls.{demandFormat}
+use Rattle.messages.specs.DemandLaws.{demand-head-local}
+use Rattle.messages.specs.PlacedMessages.{no-head, more-follows, none-follow}
+use Rattle.messages.specs.MessageAnswers.{asDemandHead, demandAnswer}
+use borrow.Author.Needs.{needs}
+use Rattle.messages.proofs.u_location_update_demand.ULocationUpdateDemand.from_bitbuf.Statement.{
+  statement,
+}
+use Rattle.messages.proofs.u_location_update_demand.ULocationUpdateDemand.from_bitbuf.Tie as tie
+
+read-head-requires : tie.Need-read-head-requires
+read-head-requires c κs = search needs
+
+enum-known-h : tie.Need-enum-known-h
+enum-known-h c = search needs
+
+enum-told : tie.Need-enum-told
+enum-told c = search needs
+
+refusal-requires : tie.Need-refusal-requires
+refusal-requires c κs = search needs
+
+refused-requires : tie.Need-refused-requires
+refused-requires c κs = search needs
+
+returns : tie.Need-returns
+returns c =
+    c .refused .ensures ∙ answer demandAnswer (no-head demandFormat (c .before .before .before .before .before .before .args .skipping) (by-refusal (c .before .before .before .before .read-head .ensures) (ap asDemandHead (c .before .before .enum-told .given .1)) (c .before .refusal .ensures)))
+
+read-elements-requires : tie.Need-read-elements-requires
+read-elements-requires c κs = search needs
+
+returns-2 : tie.Need-returns-2
+returns-2 c =
+    c .read-elements .ensures ∙ answer demandAnswer (more-follows demandFormat (c .before .before .before .before .before .before .before .before .args .skipping) (by (c .before .before .before .before .before .before .read-head .ensures) (ap asDemandHead (c .before .before .before .before .h .given .1))) (local-tail demand-head-local) (eq-eqb _ _ (c .before .if1 .taken)) (by refl refl))
+
+no-location-demand-requires : tie.Need-no-location-demand-requires
+no-location-demand-requires c κs = search needs
+
+record-of-requires : tie.Need-record-of-requires
+record-of-requires c κs = search needs
+
+returns-3 : tie.Need-returns-3
+returns-3 c =
+    rw (c .record-of .ensures, c .before .no-location-demand .ensures) (answer demandAnswer (none-follow demandFormat (c .before .before .before .before .before .before .before .before .before .args .skipping) (by (c .before .before .before .before .before .before .before .read-head .ensures) (ap asDemandHead (c .before .before .before .before .before .h .given .1))) (local-tail demand-head-local) (ne-eqb _ _ (c .before .before .if1 .left))))
+
+pub from-bitbuf-spec : {M : Type 1} → statement M
+from-bitbuf-spec =
+    tie.close
+    (tie.spec
+    read-head-requires
+    enum-known-h
+    enum-told
+    refusal-requires
+    refused-requires
+    returns
+    read-elements-requires
+    returns-2
+    no-location-demand-requires
+    record-of-requires
+    returns-3)

@@ -1,0 +1,287 @@
+//! The messages that are timed, and the time of one read whole: the original's `from_bitbuf`
+//! against our reading call.
+//!
+//! A table is printed as tab-separated lines: message, groups, bits, and the nanoseconds per
+//! message of the original and of ours, each the fastest of many rounds.
+
+use std::hint::black_box;
+use std::mem::MaybeUninit;
+use std::time::Instant;
+
+use tetra_core::BitBuffer;
+use tetra_core::pdu_parse_error::PduParseErr;
+use tetra_core::typed_pdu_fields::Type3FieldGeneric;
+use tetra_pdus::mm::enums::energy_saving_mode::EnergySavingMode;
+use tetra_pdus::mm::enums::location_update_type::LocationUpdateType;
+use tetra_pdus::mm::enums::type34_elem_id_ul::MmType34ElemIdUl;
+use tetra_pdus::mm::fields::class_of_ms::ClassOfMs;
+use tetra_pdus::mm::fields::group_identity_attachment::GroupIdentityAttachment;
+use tetra_pdus::mm::fields::group_identity_downlink::GroupIdentityDownlink;
+use tetra_pdus::mm::fields::group_identity_location_accept::GroupIdentityLocationAccept;
+use tetra_pdus::mm::fields::group_identity_location_demand::GroupIdentityLocationDemand;
+use tetra_pdus::mm::fields::group_identity_uplink::GroupIdentityUplink;
+use tetra_pdus::mm::pdus::d_attach_detach_group_identity::DAttachDetachGroupIdentity;
+use tetra_pdus::mm::pdus::d_location_update_accept::DLocationUpdateAccept;
+use tetra_pdus::mm::pdus::u_location_update_demand::ULocationUpdateDemand;
+
+use crate::flat::Flat;
+
+/// Our answer, with room for the record of any message.
+#[repr(C)]
+pub struct Answer {
+    /// 64 times the bits consumed, plus a refusal's number.
+    number: u64,
+    record: MaybeUninit<[u64; 500]>,
+}
+
+/// Our reading call of one message.
+pub type Reading = unsafe extern "C" fn(
+    octets: *const u8,
+    octets_len: usize,
+    first: usize,
+    end: usize,
+    wanted: u64,
+) -> Answer;
+
+macro_rules! reading {
+    ($name:ident) => {
+        unsafe extern "C" {
+            fn $name(
+                octets: *const u8,
+                octets_len: usize,
+                first: usize,
+                end: usize,
+                wanted: u64,
+            ) -> Answer;
+        }
+    };
+}
+
+reading!(measure_demand);
+reading!(measure_accept);
+reading!(measure_attach_detach);
+
+const STRICT: u64 = 0;
+const ROUNDS: usize = 400;
+/// The messages of a round.
+const TIMES: usize = 500;
+
+pub trait Message: Flat + Sized {
+    /// The message's type number.
+    const NUMBER: u64;
+    const OURS: Reading;
+
+    fn read(buffer: &mut BitBuffer) -> Result<Self, PduParseErr>;
+
+    fn write(&self, buffer: &mut BitBuffer) -> Result<(), PduParseErr>;
+}
+
+macro_rules! message {
+    ($record:ty, $number:expr, $ours:expr) => {
+        impl Message for $record {
+            const NUMBER: u64 = $number;
+            const OURS: Reading = $ours;
+
+            fn read(buffer: &mut BitBuffer) -> Result<Self, PduParseErr> {
+                Self::from_bitbuf(buffer)
+            }
+
+            fn write(&self, buffer: &mut BitBuffer) -> Result<(), PduParseErr> {
+                self.to_bitbuf(buffer)
+            }
+        }
+    };
+}
+
+message!(ULocationUpdateDemand, 2, measure_demand);
+message!(DLocationUpdateAccept, 5, measure_accept);
+message!(DAttachDetachGroupIdentity, 10, measure_attach_detach);
+
+/// What a table times.
+pub trait Table {
+    /// The nanoseconds per message of the original and of ours, for a message in bits `0..end`.
+    fn times<M: Message>(octets: &[u8], end: usize) -> (f64, f64);
+}
+
+pub fn print<T: Table>() {
+    let short = line::<T, _>("demand, nothing optional", "", demand());
+    assert_eq!(short, [0x26, 0x00]);
+    let ssi =
+        line::<T, _>("demand, SSI only", "", ULocationUpdateDemand { ssi: Some(1), ..demand() });
+    assert_eq!(ssi, [0x26, 0x44, 0x00, 0x00, 0x04]);
+    for count in [0, 1, 4, 16, 37] {
+        line::<T, _>("demand, full", count, full_demand(count));
+    }
+    for count in [1, 16, 63] {
+        line::<T, _>("attach/detach", count, attach_detach(count));
+    }
+    for count in [0, 4, 16] {
+        line::<T, _>("accept", count, accept(count));
+    }
+}
+
+/// Prints a line and gives the octets that both sides read.
+fn line<T: Table, M: Message>(name: &str, groups: impl ToString, record: M) -> Vec<u8> {
+    let mut buffer = BitBuffer::new_autoexpand(4096);
+    record.write(&mut buffer).expect("a message that the original writes");
+    let end = buffer.get_pos();
+    let mut octets = buffer.into_bytes();
+    octets.truncate(end.div_ceil(8));
+
+    let (original, ours) = T::times::<M>(&octets, end);
+    println!("{name}\t{}\t{end}\t{original:.2}\t{ours:.2}", groups.to_string());
+    octets
+}
+
+pub fn fastest<A, B>(mut original: impl FnMut() -> A, mut ours: impl FnMut() -> B) -> (f64, f64) {
+    let mut best = (f64::MAX, f64::MAX);
+    for _ in 0..ROUNDS {
+        best.0 = best.0.min(timed(&mut original));
+        best.1 = best.1.min(timed(&mut ours));
+    }
+    best
+}
+
+/// Nanoseconds per call.
+fn timed<T>(mut call: impl FnMut() -> T) -> f64 {
+    let start = Instant::now();
+    for _ in 0..TIMES {
+        black_box(&call());
+    }
+    start.elapsed().as_nanos() as f64 / TIMES as f64
+}
+
+pub struct IntoRecord;
+
+impl Table for IntoRecord {
+    fn times<M: Message>(octets: &[u8], end: usize) -> (f64, f64) {
+        let mut buffer = BitBuffer::from_bytes(octets);
+        buffer.set_raw_end(end);
+        original_read::<M>(&mut buffer).expect("a message that the original reads");
+        assert_eq!(buffer.get_pos(), end, "the original consumed another number of bits");
+        let answer = our_read::<M>(octets, end);
+        assert_eq!(answer.number, 64 * end as u64, "ours refused or consumed otherwise");
+
+        fastest(|| original_read::<M>(&mut buffer), || our_read::<M>(octets, end))
+    }
+}
+
+// Both give an answer with the record, which `timed` drops.
+
+fn original_read<M: Message>(buffer: &mut BitBuffer) -> Result<M, PduParseErr> {
+    buffer.set_raw_pos(0);
+    M::read(buffer)
+}
+
+fn our_read<M: Message>(octets: &[u8], end: usize) -> Answer {
+    // SAFETY: the pointer and the length are one slice's.
+    unsafe { (M::OURS)(octets.as_ptr(), octets.len(), 0, end, STRICT) }
+}
+
+// The records.
+
+fn demand() -> ULocationUpdateDemand {
+    ULocationUpdateDemand {
+        location_update_type: LocationUpdateType::ItsiAttach,
+        request_to_append_la: false,
+        cipher_control: false,
+        ciphering_parameters: None,
+        class_of_ms: None,
+        energy_saving_mode: None,
+        la_information: None,
+        ssi: None,
+        address_extension: None,
+        group_identity_location_demand: None,
+        group_report_response: None,
+        authentication_uplink: None,
+        extended_capabilities: None,
+        proprietary: None,
+    }
+}
+
+/// Every element, the list with `count` groups.
+fn full_demand(count: u32) -> ULocationUpdateDemand {
+    let mut class = BitBuffer::from_bytes(&[0xb5, 0xc3, 0x96]);
+    ULocationUpdateDemand {
+        cipher_control: true,
+        ciphering_parameters: Some(0x2a5),
+        class_of_ms: Some(ClassOfMs::from_bitbuf(&mut class).expect("24 bits")),
+        energy_saving_mode: Some(EnergySavingMode::Eg3),
+        la_information: Some(0x1234),
+        ssi: Some(0x12_3456),
+        address_extension: Some(0x65_4321),
+        group_identity_location_demand: Some(GroupIdentityLocationDemand {
+            group_identity_attach_detach_mode: 1,
+            group_identity_uplink: Some((0..count).map(uplink).collect()),
+        }),
+        group_report_response: generic(MmType34ElemIdUl::GroupReportResponse, 1),
+        authentication_uplink: generic(MmType34ElemIdUl::AuthenticationUplink, 40),
+        extended_capabilities: generic(MmType34ElemIdUl::ExtendedCapabilities, 24),
+        proprietary: generic(MmType34ElemIdUl::Proprietary, 64),
+        ..demand()
+    }
+}
+
+fn generic(identifier: MmType34ElemIdUl, len: usize) -> Option<Type3FieldGeneric> {
+    let data = 0xb5c3_96a5_5a69_3c4b >> (64 - len);
+    Some(Type3FieldGeneric { field_id: identifier.into_raw(), len, data })
+}
+
+/// 54 bits: a class of usage, and GSSI and extension.
+fn uplink(i: u32) -> GroupIdentityUplink {
+    GroupIdentityUplink {
+        class_of_usage: Some((i % 8) as u8),
+        group_identity_detachment_uplink: None,
+        gssi: Some(0x12_3456 + i),
+        address_extension: Some(0x65_4321),
+        vgssi: None,
+    }
+}
+
+/// 32 bits: an attachment, and a GSSI.
+fn downlink(i: u32) -> GroupIdentityDownlink {
+    GroupIdentityDownlink {
+        group_identity_attachment: Some(GroupIdentityAttachment {
+            group_identity_attachment_lifetime: 3,
+            class_of_usage: (i % 8) as u8,
+        }),
+        group_identity_detachment_uplink: None,
+        gssi: Some(0x12_3456 + i),
+        address_extension: None,
+        vgssi: None,
+    }
+}
+
+fn attach_detach(count: u32) -> DAttachDetachGroupIdentity {
+    DAttachDetachGroupIdentity {
+        group_identity_report: false,
+        group_identity_acknowledgement_request: true,
+        group_identity_attach_detach_mode: true,
+        proprietary: None,
+        group_report_response: None,
+        group_identity_downlink: Some((0..count).map(downlink).collect()),
+        group_identity_security_related_information: None,
+    }
+}
+
+fn accept(count: u32) -> DLocationUpdateAccept {
+    DLocationUpdateAccept {
+        location_update_accept_type: LocationUpdateType::ItsiAttach,
+        ssi: Some(0x12_3456),
+        address_extension: None,
+        subscriber_class: None,
+        energy_saving_information: None,
+        scch_information_and_distribution_on_18th_frame: None,
+        new_registered_area: None,
+        security_downlink: None,
+        group_identity_location_accept: Some(GroupIdentityLocationAccept {
+            group_identity_accept_reject: 0,
+            group_identity_downlink: Some((0..count).map(downlink).collect()),
+        }),
+        default_group_attachment_lifetime: None,
+        authentication_downlink: None,
+        group_identity_security_related_information: None,
+        cell_type_control: None,
+        proprietary: None,
+    }
+}
