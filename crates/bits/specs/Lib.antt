@@ -7,4 +7,6 @@ pub mod Placed
 pub mod PlacedLaws
 pub mod Written
 pub mod WrittenLaws
+pub mod DigitsLaws
+pub mod PutsLaws
 pub mod PlacedTimes

@@ -39,6 +39,11 @@ pub then-same : {A B : Type 0} (x : Answer A) {f g : A → Reader B} → ((a : A
 then-same (got a rest) e = e a rest
 then-same (refused n) e = refl
 
+-- two chains behind one answer, by what they do next
+pub then-both : {A B C X : Type 0} (x : Answer A) (f : A → Reader B) (h : B → Reader X) (g : A → Reader C) (k : C → Reader X)
+    → ((a : A) (rest : Bits) → then (f a rest) h ≡ then (g a rest) k) → then (then x f) h ≡ then (then x g) k
+then-both x f h g k e = then-then x f h ∙ then-same x e ∙ sym (then-then x g k)
+
 pub local-tail : {A : Type 0} {r : Reader A} → Local r → Tail r
 local-tail l = record { at = λ bs a rest e. let u = l .at bs a rest e in (u .used, u .split) }
 
@@ -57,27 +62,25 @@ refused-local n = record { at = λ bs a rest e. refused-got e }
 joined : (u v rest : Bits) {bs mid : Bits} → bs ≡ u ++ mid → mid ≡ v ++ rest → bs ≡ (u ++ v) ++ rest
 joined u v rest p q = p ∙ ap (λ (l : Bits). u ++ l) q ∙ sym (append-assoc u v rest)
 
+-- what a value of two readers in turn tells, of what the value of each tells
+bound : {A B : Type 0} (r : Reader A) (f : A → Reader B) {R : Bits → A → Bits → Type 0} {F : A → Bits → B → Bits → Type 0} {T : Bits → B → Bits → Type 0}
+    → ((bs : Bits) (a : A) (rest : Bits) → r bs ≡ got a rest → R bs a rest)
+    → ((a : A) (bs : Bits) (b : B) (rest : Bits) → f a bs ≡ got b rest → F a bs b rest)
+    → ((bs mid rest : Bits) (a : A) (b : B) → R bs a mid → F a mid b rest → T bs b rest)
+    → (bs : Bits) (b : B) (rest : Bits) → (r >>= f) bs ≡ got b rest → T bs b rest
+bound r f lr lf join bs b rest e = split-then (r bs) f e (λ a mid p q. join bs mid rest a b (lr bs a mid p) (lf a mid b rest q))
+
 pub bind-local : {A B : Type 0} (r : Reader A) (f : A → Reader B) → Local r → ((a : A) → Local (f a)) → Local (r >>= f)
 bind-local r f lr lf = record {
-  at = λ bs b rest e.
-      split-then (r bs) f e (λ a mid p q.
-      let u = lr .at bs a mid p in
-      let v = (lf a) .at mid b rest q in
-      record {
-        used = u .used ++ v .used;
-        split = joined (u .used) (v .used) rest (u .split) (v .split);
-        any = λ zs. rw (append-assoc (u .used) (v .used) zs, u .any) (v .any zs);
-      });
+  at = bound r f (lr .at) (λ a. lf a .at) (λ bs mid rest a b u v. record {
+    used = u .used ++ v .used;
+    split = joined (u .used) (v .used) rest (u .split) (v .split);
+    any = λ zs. rw (append-assoc (u .used) (v .used) zs, u .any) (v .any zs);
+  });
 }
 
 pub bind-tail : {A B : Type 0} (r : Reader A) (f : A → Reader B) → Tail r → ((a : A) → Tail (f a)) → Tail (r >>= f)
-bind-tail r f lr lf = record {
-  at = λ bs b rest e.
-      split-then (r bs) f e (λ a mid p q.
-      let u = lr .at bs a mid p in
-      let v = (lf a) .at mid b rest q in
-      (u .0 ++ v .0, joined (u .0) (v .0) rest (u .1) (v .1)));
-}
+bind-tail r f lr lf = record { at = bound r f (lr .at) (λ a. lf a .at) (λ bs mid rest a b u v. (u .0 ++ v .0, joined (u .0) (v .0) rest (u .1) (v .1))) }
 
 -- ## fields
 

@@ -6,7 +6,7 @@ ghost use lib.Dec.{leb, ltb};
 ghost use Rattle.bits.specs.Bits.{number, digits};
 ghost use Rattle.bits.specs.Reader.{word, pass};
 ghost use Rattle.bits.specs.Placed.{left, fieldAt, onward, at, asField, asField8, asField32, asMoved, refusal};
-ghost use Rattle.bits.specs.Written.{splice, putBits, writeField};
+ghost use Rattle.bits.specs.Written.{splice, putBits, writeField, written, next, Joined, roomFor, refuse};
 use crate::pdu_parse_error::BUFFER_ENDED;
 use crate::pdu_parse_error::VALUE_TOO_LARGE;
 use crate::pdu_parse_error::WINDOW_TOO_SHORT;
@@ -38,6 +38,20 @@ pub enum Moved {
     To(Cursor),
     Refused(u8),
 }
+
+// At most 64 bits, to be written as one field: the low `width` digits of `value`.
+pub struct Digits {
+    pub value: u64,
+    pub width: usize,
+}
+
+// No bits; and what stands for more than 64.
+pub const NO_DIGITS: Digits = Digits { value: 0, width: 0 };
+
+const TOO_WIDE: Digits = Digits {
+    value: 0,
+    width: 65,
+};
 
 impl Field {
     // The refusal's number, 0 if there is none.
@@ -99,7 +113,7 @@ fn low(word: u64, n: usize) -> u64
 }
 
 // Whether a number has no more than `width` bits.
-fn within(value: u64, width: usize) -> bool
+pub fn within(value: u64, width: usize) -> bool
     ensures { λ r. ⌜ r ≡ ltb value (2 ^ width) ⌝ }
 {
     if 63 < width {
@@ -298,5 +312,76 @@ impl Cursor {
             return Moved::Refused(WINDOW_TOO_SHORT);
         }
         Moved::Refused(VALUE_TOO_LARGE)
+    }
+}
+
+// The `n` lowest bits of a word, all of them from 64 on.
+fn lowest(word: u64, n: usize) -> u64
+    ensures { λ r. ⌜ r ≡ word % 2 ^ n ⌝ }
+{
+    if n < 64 {
+        return low(word, n);
+    }
+    word
+}
+
+// `word` with `n` zeros behind it; nothing of it is left at 64.
+fn shifted(word: u64, n: usize) -> u64
+    requires { ⌜ n ≤ 64 ⌝ }
+    ensures { λ r. ⌜ r ≡ (word * 2 ^ n) % 2 ^ 64 ⌝ }
+{
+    if n < 64 {
+        return word << n;
+    }
+    0
+}
+
+impl Digits {
+    // These bits, and behind them the low `width` digits of `value`.
+    pub fn then(self, value: u64, width: usize) -> Digits
+        ensures { λ r. ⌜ Joined self (digits width value) r ⌝ }
+    {
+        if width <= 64 {
+            if self.width <= 64 - width {
+                let front = lowest(self.value, self.width);
+                return Digits {
+                    value: shifted(front, width) | lowest(value, width),
+                    width: self.width + width,
+                };
+            }
+        }
+        TOO_WIDE
+    }
+}
+
+impl Moved {
+    // Writes what comes next; behind a refusal nothing is written.
+    pub fn put(self, octets: &mut [u8], d: Digits) -> Moved
+        ensures { λ r. ⌜ written (now (octets .exit)) (asMoved r) ≡ next (writeField (d .width) (d .value)) (written (now (octets .entry)) (asMoved self)) ⌝ }
+    {
+        let Moved::To(c) = self else {
+            return self;
+        };
+        c.write(octets, d.value, d.width)
+    }
+
+    // Whether `width` bits are left, in `len` octets; none behind a refusal.
+    pub fn has(self, len: usize, width: usize) -> bool
+        ensures { λ r. ⌜ r ≡ roomFor width len (asMoved self) ⌝ }
+    {
+        let Moved::To(c) = self else {
+            return false;
+        };
+        c.holds(len, width)
+    }
+
+    // A refusal with a number; one that stands already stays as it is.
+    pub fn refuse(self, n: u8) -> Moved
+        ensures { λ r. ⌜ asMoved r ≡ refuse n (asMoved self) ⌝ }
+    {
+        let Moved::To(_) = self else {
+            return self;
+        };
+        Moved::Refused(n)
     }
 }

@@ -14,7 +14,7 @@ use Rattle.elements.specs.Rows.{rowOf, slotsFrom}
 use Rattle.elements.specs.declared.typed_pdu_fields.Row.{Row}
 use Rattle.elements.specs.declared.typed_pdu_fields.Table.{Table}
 
-abbrev noRow : Row
+abbrev pub noRow : Row
 noRow = record { identifier = 0; kind = 0 }
 
 -- ## whether the first `count` rows from i on have an identifier

@@ -2,13 +2,13 @@
 use Prim.Native.Nat.{ℕ}
 use mathlib.Core.Bool.{Bool}
 use mathlib.Core.Option.{Option, none, some}
-use mathlib.Core.List.{List}
 use Rattle.bits.specs.Reader.{Reader, field, optional}
 use Rattle.bits.specs.Placed.{Placed, placed, halted}
+use Rattle.bits.specs.declared.bitbuffer.Moved.{Moved}
 use Rattle.bits.specs.declared.bitbuffer.Moved.the-variants as M
 use Rattle.elements.specs.Numbers.{isPresent, valueOr, u8Of, u64Of, type2As}
-use Rattle.elements.specs.Table.{Counted, identifierWidth}
-use Rattle.elements.specs.Rows.{noGeneric, noGenerics, slotsIn}
+use Rattle.elements.specs.Table.{identifierWidth}
+use Rattle.elements.specs.Rows.{noGeneric, noGenerics}
 use Rattle.elements.specs.declared.typed_pdu_fields.OptionalU8.{OptionalU8}
 use Rattle.elements.specs.declared.typed_pdu_fields.OptionalU32.{OptionalU32}
 use Rattle.elements.specs.declared.typed_pdu_fields.OptionalU64.{OptionalU64}
@@ -61,15 +61,13 @@ abbrev pub asSkipped : Skipped → Placed ℕ
 asSkipped (S.Count n c) = placed n c
 asSkipped (S.Refused n) = halted n
 
+-- an answer that holds a verdict and a value: what the value is where there is none
+abbrev pub answerOf : {A X : Type 0} → (Moved → A → X) → A → Placed A → X
+answerOf make absent (placed a c) = make (M.To c) a
+answerOf make absent (halted n) = make (M.Refused n) absent
+
 abbrev pub genericAnswer : Placed Generic → GenericRead
-genericAnswer (placed g c) = record { verdict = M.To c; element = g }
-genericAnswer (halted n) = record { verdict = M.Refused n; element = noGeneric }
+genericAnswer = answerOf (λ v g. record { verdict = v; element = g }) noGeneric
 
 abbrev pub slotsAnswer : Placed Slots → ScanRead
-slotsAnswer (placed s c) = record { verdict = M.To c; slots = s }
-slotsAnswer (halted n) = record { verdict = M.Refused n; slots = record { skipped = 0; generics = noGenerics } }
-
--- the values are put into the array from a place on
-abbrev pub scanAnswer : List Generic → ℕ → Placed (Counted (List Generic)) → ScanRead
-scanAnswer before from (placed x c) = slotsAnswer (placed (slotsIn before from x) c)
-scanAnswer before from (halted n) = slotsAnswer (halted n)
+slotsAnswer = answerOf (λ v s. record { verdict = v; slots = s }) (record { skipped = 0; generics = noGenerics })

@@ -1,11 +1,11 @@
 -- Laws of numbers one after the other, and of the class of MS.
-use Prim.Native.Nat.{ℕ, _+_, _*_, _/_, _%_, _^_, _≤_, _<_}
+use Prim.Native.Nat.{ℕ, zero, suc, _+_, _*_, _/_, _%_, _^_, _≤_, _<_}
 use native.Mathlib.Nat.{mul-assoc, mod-eq-of-lt, mul-add-div-right, mul-add-mod-self-right, div-one}
 use native.Mathlib.Omega.{arith}
-use mathlib.Core.Path.{_≡_, refl, sym, subst}
-use mathlib.Core.Bool.{Bool, true, false}
-use mathlib.Core.List.{List, [], _∷_, _++_, append-assoc}
-use lib.ListN.{length, take, drop, length-drop}
+use mathlib.Core.Path.{_≡_, refl, sym, ap, subst, _∙_}
+use mathlib.Core.Bool.{Bool, true, false, _&&_}
+use mathlib.Core.List.{List, [], _∷_, _++_, append-assoc, append-nil}
+use lib.ListN.{length, take, drop, getD, length-drop}
 use lib.Dec.{leb}
 use borrow.Author.Tests.{leb-true, leb-false}
 use lib.Pow.{pow-pos, pow-add, high}
@@ -18,7 +18,10 @@ use Rattle.bits.specs.ReaderLaws.{then-then, local·rules, local-tail, got-loca
 use Rattle.bits.specs.Placed.{window, placed, halted}
 use Rattle.bits.specs.PlacedLaws.{Gives, step, stop, done}
 use Rattle.bits.specs.PlacedTimes.{alike}
+use Rattle.bits.specs.Written.{Holds, Joined}
+use Rattle.bits.specs.DigitsLaws.{_▹_}
 use Rattle.bits.specs.declared.bitbuffer.Cursor.{Cursor}
+use Rattle.bits.specs.declared.bitbuffer.Digits.{Digits}
 use Rattle.elements.specs.Numbers.{inWidth}
 use Rattle.elements.specs.NumbersLaws.{both, number-back}
 use Rattle.elements.specs.ClassOfMs.{numbers, numbersBits, numbersFit, classWidths, classFields, classOf, classOfMs, classBits, classFits}
@@ -50,6 +53,43 @@ class-local = search (local·rules, numbers-local)
 pub class-back : (m : ClassOfMs) → classFits m ≡ true → (rest : Bits) → classOfMs (classBits m ++ rest) ≡ got m rest
 unfolding classOfMs classBits classFits
 class-back m f rest = rw (numbers-back classWidths (classFields m) refl f rest)
+
+-- ## written one after the other
+
+numbers-more : (ws vs : List ℕ) (i a b : ℕ) → i < length ws → i < length vs
+    → numbersBits (take i ws) (take i vs) ++ digits (getD ws i a) (getD vs i b) ≡ numbersBits (take (suc i) ws) (take (suc i) vs)
+unfolding numbersBits
+numbers-more [] vs i a b h k = absurd (omega arith)
+numbers-more (w ∷ ws) [] i a b h k = absurd (omega arith)
+numbers-more (w ∷ ws) (v ∷ vs) zero a b h k = sym (append-nil (digits w v))
+numbers-more (w ∷ ws) (v ∷ vs) (suc i) a b h k =
+    append-assoc (digits w v) (numbersBits (take i ws) (take i vs)) (digits (getD ws i a) (getD vs i b))
+    ∙ ap (λ (xs : Bits). digits w v ++ xs) (numbers-more ws vs i a b (omega arith) (omega arith))
+
+-- one more, behind what stands before
+pub one-number : {d r : Digits} (xs : Bits) (ws vs : List ℕ) (i a b : ℕ) → i < length ws → i < length vs
+    → Holds d (xs ++ numbersBits (take i ws) (take i vs)) → Joined d (digits (getD ws i a) (getD vs i b)) r
+    → Holds r (xs ++ numbersBits (take (i + 1) ws) (take (i + 1) vs))
+one-number xs ws vs i a b h k e p =
+    let z : i + 1 ≡ suc i = omega arith in
+    rw (z, ← numbers-more ws vs i a b h k, ← append-assoc xs (numbersBits (take i ws) (take i vs)) (digits (getD ws i a) (getD vs i b))) (e ▹ p)
+
+-- ## asked one after the other
+
+-- behind what was answered before
+unfoldable pub stillFit : Bool → List ℕ → List ℕ → Bool
+stillFit b [] vs = b
+stillFit b (w ∷ ws) [] = b
+stillFit b (w ∷ ws) (v ∷ vs) = stillFit (b && inWidth w v) ws vs
+
+pub still-fit : (b : Bool) (ws vs : List ℕ) → stillFit b ws vs ≡ (b && numbersFit ws vs)
+unfolding stillFit numbersFit
+still-fit true [] vs = refl
+still-fit false [] vs = refl
+still-fit true (w ∷ ws) [] = refl
+still-fit false (w ∷ ws) [] = refl
+still-fit true (w ∷ ws) (v ∷ vs) = still-fit (inWidth w v) ws vs
+still-fit false (w ∷ ws) (v ∷ vs) = still-fit false ws vs
 
 -- ## numbers as parts of one word
 

@@ -3,13 +3,17 @@ use Prim.Native.Nat.{ℕ, _+_, _^_}
 use mathlib.Core.Path.{_≡_, refl, sym}
 use mathlib.Core.Bool.{Bool, true, false, not, _&&_, _||_}
 use mathlib.Core.Option.{Option, none, some}
-use mathlib.Core.List.{_++_, append-assoc}
+use mathlib.Core.List.{List, _++_, append-assoc}
 use lib.Dec.{eqb}
 use lib.Pow.{pow-pos}
 use borrow.Author.Tests.{lt-ltb, not-true}
 use Rattle.bits.specs.Bits.{Bits}
-use Rattle.bits.specs.Reader.{got, field, Local}
+use Rattle.bits.specs.Reader.{got, _>>=_, field, Local}
 use Rattle.bits.specs.ReaderLaws.{local·rules, split-then, Passes, field-passes, got-passes, bind-passes}
+use Rattle.bits.specs.Placed.{Placed, placed, halted}
+use Rattle.bits.specs.PlacedLaws.{Gives, step, stop}
+use Rattle.bits.specs.declared.bitbuffer.Cursor.{Cursor}
+use Rattle.elements.specs.PlacedOptional.{ends}
 use Rattle.elements.specs.Numbers.{isPresent, valueOr, held, optionAll, inWidth}
 use Rattle.elements.specs.NumbersLaws.{both, number-back, held-option, sameU8, sameU8-self}
 use Rattle.elements.specs.EnergySaving.{savingModeWidth, frameWidth, multiframeWidth, stayAlive, savingOf, energySaving, frameIn, multiframeIn, savingBits, savingFits, aliveHasNone, othersHaveBoth, savingNormal, SameSaving}
@@ -25,6 +29,29 @@ saving-passes =
     bind-passes savingModeWidth (frameWidth + multiframeWidth) (field savingModeWidth) _ refl (field-passes savingModeWidth)
     (λ m. bind-passes frameWidth multiframeWidth (field frameWidth) _ refl (field-passes frameWidth)
     (λ f. bind-passes multiframeWidth 0 (field multiframeWidth) _ refl (field-passes multiframeWidth) (λ n. got-passes _)))
+
+-- ## at a cursor
+
+-- a number behind the mode: StayAlive has none
+abbrev numberOf : ℕ → ℕ → Option ℕ
+numberOf m v = held (not (eqb m stayAlive)) v
+
+module _ {os : List ℕ} {c : Cursor} {m : ℕ} {c₁ : Cursor} (e₁ : Gives (field savingModeWidth) os c (placed m c₁)) where
+  pub no-frame : {k : ℕ} → Gives (field frameWidth) os c₁ (halted k) → Gives energySaving os c (halted k)
+  unfolding energySaving
+  no-frame e = step _ e₁ (search local·rules) (stop _ e)
+
+  module _ {f : ℕ} {c₂ : Cursor} (e₂ : Gives (field frameWidth) os c₁ (placed f c₂)) where
+    behind-frame : {x : Placed EnergySavingInformation} → Gives (field multiframeWidth >>= λ n. got (savingOf m (numberOf m f) (numberOf m n))) os c₂ x → Gives energySaving os c x
+    unfolding energySaving
+    behind-frame g = step _ e₁ (search local·rules) (step _ e₂ (search local·rules) g)
+
+    pub no-multiframe : {k : ℕ} → Gives (field multiframeWidth) os c₂ (halted k) → Gives energySaving os c (halted k)
+    no-multiframe e = behind-frame (stop _ e)
+
+    pub whole-saving : {n : ℕ} {c₃ : Cursor} {s : EnergySavingInformation} → Gives (field multiframeWidth) os c₂ (placed n c₃)
+        → savingOf m (numberOf m f) (numberOf m n) ≡ s → Gives energySaving os c (placed s c₃)
+    whole-saving e q = behind-frame (step _ e (search local·rules) (ends q))
 
 -- ## reading back
 

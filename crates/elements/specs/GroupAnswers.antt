@@ -4,13 +4,13 @@ use mathlib.Core.Bool.{Bool}
 use mathlib.Core.Option.{Option, none, some}
 use Rattle.bits.specs.Reader.{Reader, got, _>>=_, optional}
 use Rattle.bits.specs.Placed.{Placed, placed, halted}
-use Rattle.bits.specs.declared.bitbuffer.Moved.the-variants as M
 use Rattle.elements.specs.Numbers.{isPresent, valueOr}
 use Rattle.elements.specs.Table.{slot}
 use Rattle.elements.specs.Groups.{Address, noAttachment}
 use Rattle.elements.specs.Lists.{Groups, list, listOf, uplinks, downlinks}
 use Rattle.elements.specs.Locations.{noLocationDemand, noLocationAccept}
 use Rattle.elements.specs.Kinds.{row, ofLocationDemand, ofLocationAccept, ofDownlinks, heldElement, identifierOf, content, absentLocationDemand, absentLocationAccept}
+use Rattle.elements.specs.Answers.{answerOf}
 use Rattle.elements.specs.declared.group_address.GroupAddress.{GroupAddress}
 use Rattle.elements.specs.declared.group_address.AddressRead.{AddressRead}
 use Rattle.elements.specs.declared.group_address.AddressRead.the-variants as A
@@ -87,12 +87,10 @@ asDownlink (D.Read v c) = placed v c
 asDownlink (D.Refused n) = halted n
 
 abbrev pub uplinksAnswer : Placed OptionalUplinks → UplinksRead
-uplinksAnswer (placed l c) = record { verdict = M.To c; list = l }
-uplinksAnswer (halted n) = record { verdict = M.Refused n; list = listOf uplinks none }
+uplinksAnswer = answerOf (λ v l. record { verdict = v; list = l }) (listOf uplinks none)
 
 abbrev pub downlinksAnswer : Placed OptionalDownlinks → DownlinksRead
-downlinksAnswer (placed l c) = record { verdict = M.To c; list = l }
-downlinksAnswer (halted n) = record { verdict = M.Refused n; list = listOf downlinks none }
+downlinksAnswer = answerOf (λ v l. record { verdict = v; list = l }) (listOf downlinks none)
 
 -- ## structures
 
@@ -101,12 +99,10 @@ unfoldable pub nestedSlot : {G L : Type 0} → Groups G L → ℕ → Reader L
 nestedSlot k i = slot (λ i. i) (λ i. list k) i >>= λ o. got (valueOr (listOf k none) o)
 
 abbrev pub locationDemandAnswer : Placed GroupIdentityLocationDemand → LocationDemandRead
-locationDemandAnswer (placed d c) = record { verdict = M.To c; location = d }
-locationDemandAnswer (halted n) = record { verdict = M.Refused n; location = noLocationDemand }
+locationDemandAnswer = answerOf (λ v d. record { verdict = v; location = d }) noLocationDemand
 
 abbrev pub locationAcceptAnswer : Placed GroupIdentityLocationAccept → LocationAcceptRead
-locationAcceptAnswer (placed d c) = record { verdict = M.To c; location = d }
-locationAcceptAnswer (halted n) = record { verdict = M.Refused n; location = noLocationAccept }
+locationAcceptAnswer = answerOf (λ v d. record { verdict = v; location = d }) noLocationAccept
 
 -- the slot of a message's table that holds the structure, or the outer list
 unfoldable pub locationDemandSlot : ℕ → Reader OptionalLocationDemand
@@ -119,12 +115,10 @@ unfoldable pub downlinksSlot : ℕ → Reader OptionalDownlinks
 downlinksSlot i = slot identifierOf content (row i ofDownlinks) >>= λ o. got (heldElement o .downlinks)
 
 abbrev pub locationDemandSlotAnswer : Placed OptionalLocationDemand → LocationDemandSlot
-locationDemandSlotAnswer (placed d c) = record { verdict = M.To c; location = d }
-locationDemandSlotAnswer (halted n) = record { verdict = M.Refused n; location = absentLocationDemand }
+locationDemandSlotAnswer = answerOf (λ v d. record { verdict = v; location = d }) absentLocationDemand
 
 abbrev pub locationAcceptSlotAnswer : Placed OptionalLocationAccept → LocationAcceptSlot
-locationAcceptSlotAnswer (placed d c) = record { verdict = M.To c; location = d }
-locationAcceptSlotAnswer (halted n) = record { verdict = M.Refused n; location = absentLocationAccept }
+locationAcceptSlotAnswer = answerOf (λ v d. record { verdict = v; location = d }) absentLocationAccept
 
 -- ## small elements
 

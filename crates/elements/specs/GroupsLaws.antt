@@ -11,7 +11,7 @@ use lib.Dec.{eqb, lit<, lit≤}
 use Rattle.bits.specs.Bits.{Bits, digits}
 use Rattle.bits.specs.Reader.{Reader, got, field, optional, Local}
 use Rattle.bits.specs.ReaderLaws.{local·rules, field-back, split-then}
-use Rattle.elements.specs.Numbers.{isPresent, valueOr, held, optionalNumber, optionAll, inWidth, flagWidth}
+use Rattle.elements.specs.Numbers.{isPresent, valueOr, held, optionalNumber, optionAll, inWidth, flagWidth, Same}
 use Rattle.elements.specs.NumbersLaws.{never, both, optional-same-back, number-back, optionalNumber-back, held-option, same-held, same-self}
 use Rattle.elements.specs.Groups.{addressTypeWidth, addressWidth, Form, uplinkForms, downlinkForms, formAt, sameForm, typeOf, listedForm, Address, addressOf, formOf, addressBits, addressFits, typedAddress, uplinkAddress, downlinkAddress, detachmentWidth, classOfUsageWidth, attachment, detachment, kindOf, differ, groupWith, groupBits, groupFits, uplinkOf, uplink, uplinkClass, uplinkDetachment, uplinkAddressIn, uplinkBits, uplinkFits, uplinkOne, uplinkListed, uplinkNormal, SameUplink, lifetimeWidth, attachmentInfo, noAttachment, downlinkOf, downlink, downlinkAttachment, downlinkDetachment, downlinkAddressIn, attachmentBits, attachmentFits, downlinkBits, downlinkFits, downlinkOne, downlinkListed, downlinkNormal, SameDownlink}
 use Rattle.elements.specs.declared.group_identity_attachment.GroupIdentityAttachment.{GroupIdentityAttachment}
@@ -143,6 +143,11 @@ held-address : (a : Address) → record {
 } ≡ a
 held-address a = λ i. record { gssi = held-option 0 (a .gssi) i; extension = held-option 0 (a .extension) i; vgssi = held-option 0 (a .vgssi) i }
 
+-- two addresses of which what is present is the same
+same-address : {p q r p′ q′ r′ : Bool} {a b c a′ b′ c′ : ℕ} → Same _≡_ p a p′ a′ → Same _≡_ q b q′ b′ → Same _≡_ r c r′ c′
+    → _≡_ {A = Address} (record { gssi = held p a; extension = held q b; vgssi = held r c }) (record { gssi = held p′ a′; extension = held q′ b′; vgssi = held r′ c′ })
+same-address g e v = λ i. record { gssi = same-held g i; extension = same-held e i; vgssi = same-held v i }
+
 -- ## the uplink group
 
 pub uplink-back : (g : GroupIdentityUplink) → uplinkFits g ≡ true → uplinkOne g ≡ true → uplinkListed g ≡ true → (rest : Bits)
@@ -154,9 +159,7 @@ uplink-back g =
 
 pub uplink-same : {g h : GroupIdentityUplink} → SameUplink g h → uplinkNormal g ≡ uplinkNormal h
 unfolding uplinkNormal
-uplink-same s = λ i.
-    uplinkOf (same-held (s .class) i) (same-held (s .detachment) i)
-    (record { gssi = same-held (s .gssi) i; extension = same-held (s .extension) i; vgssi = same-held (s .vgssi) i })
+uplink-same s = λ i. uplinkOf (same-held (s .class) i) (same-held (s .detachment) i) (same-address (s .gssi) (s .extension) (s .vgssi) i)
 
 pub uplink-normal-same : (g : GroupIdentityUplink) → SameUplink g (uplinkNormal g)
 unfolding uplinkNormal
@@ -191,9 +194,7 @@ downlink-back g =
 
 pub downlink-same : {g h : GroupIdentityDownlink} → SameDownlink g h → downlinkNormal g ≡ downlinkNormal h
 unfolding downlinkNormal
-downlink-same s = λ i.
-    downlinkOf (same-held (s .attachment) i) (same-held (s .detachment) i)
-    (record { gssi = same-held (s .gssi) i; extension = same-held (s .extension) i; vgssi = same-held (s .vgssi) i })
+downlink-same s = λ i. downlinkOf (same-held (s .attachment) i) (same-held (s .detachment) i) (same-address (s .gssi) (s .extension) (s .vgssi) i)
 
 pub downlink-normal-same : (g : GroupIdentityDownlink) → SameDownlink g (downlinkNormal g)
 unfolding downlinkNormal

@@ -4,12 +4,13 @@ use native.Mathlib.Omega.{arith}
 use mathlib.Core.Path.{_≡_, refl, ap}
 use mathlib.Core.Bool.{Bool, true, false, _&&_}
 use mathlib.Core.Option.{Option, none, some}
+use mathlib.Core.List.{_++_}
 use lib.ListN.{length, length-append}
 use lib.Dec.{leb}
 use borrow.Author.Tests.{leb-true, ltb-true}
 use Rattle.bits.specs.Bits.{Bits, digits}
 use Rattle.bits.specs.BitsLaws.{length-digits}
-use Rattle.bits.specs.Reader.{Answer, got, then, Local}
+use Rattle.bits.specs.Reader.{Answer, Reader, got, then, Local}
 use Rattle.bits.specs.ReaderLaws.{got-local, bind-local, split-then, Passes, got-passes, bind-passes}
 use Rattle.elements.specs.Table.{lengthWidth}
 use Rattle.elements.specs.TableBack.{Back, SlotBack}
@@ -17,10 +18,10 @@ use Rattle.elements.specs.Numbers.{held, optionBits, optionAll, optionMa
 use Rattle.elements.specs.NumbersLaws.{both}
 use Rattle.elements.specs.Generics.{dataWidth, entriesWidth, type3, type4, type3Bits, type4Bits, type3Fits, type4Fits}
 use Rattle.elements.specs.GenericsLaws.{type3-local, type4-local, type3-passes, type4-passes, type3-back, type4-back}
-use Rattle.elements.specs.Lists.{entriesMost, Groups, list, listHeld, listBits, listFits, listOne, listListed, uplinks, downlinks}
+use Rattle.elements.specs.Lists.{entriesMost, Groups, list, listHeld, listBits, listOne, listListed, downlinks}
 use Rattle.elements.specs.ListsLaws.{downlinks-sound, list-local, list-passes, list-back, list-own}
-use Rattle.elements.specs.Locations.{locationDemand, locationDemandBits, locationDemandFits, locationAccept, locationAcceptBits, locationAcceptFits}
-use Rattle.elements.specs.LocationsLaws.{ListOk, location-demand-local, location-demand-passes, location-demand-fits, location-demand-back, location-demand-own, location-accept-local, location-accept-passes, location-accept-fits, location-accept-back, location-accept-own}
+use Rattle.elements.specs.Locations.{locationDemand, locationAccept}
+use Rattle.elements.specs.LocationsLaws.{ListOk, Structure, demand-laws, accept-laws}
 use Rattle.elements.specs.Kinds.{Kind, genericType3, genericType4, ofLocationDemand, ofLocationAccept, ofDownlinks, Slot, row, Element, isType3, isType4, isLocationDemand, isLocationAccept, isDownlinks, contentOf, contentBitsOf, normalOf, content, contentBits, elementNormal, type3Held, type3Slot, type4Held, type4Slot}
 use Rattle.elements.specs.declared.typed_pdu_fields.Type3FieldGeneric.{Type3FieldGeneric}
 use Rattle.elements.specs.declared.typed_pdu_fields.Type4FieldGeneric.{Type4FieldGeneric}
@@ -39,8 +40,8 @@ content-local s n = go (s .kind)
     go : (k : Kind) → Local (contentOf k n)
     go genericType3 = bind-local (type3 n) _ (type3-local n) (λ g. got-local (isType3 g))
     go genericType4 = bind-local (type4 n) _ (type4-local n) (λ g. got-local (isType4 g))
-    go ofLocationDemand = bind-local (locationDemand n) _ (location-demand-local n) (λ d. got-local (isLocationDemand d))
-    go ofLocationAccept = bind-local (locationAccept n) _ (location-accept-local n) (λ d. got-local (isLocationAccept d))
+    go ofLocationDemand = bind-local (locationDemand n) _ (demand-laws .local n) (λ d. got-local (isLocationDemand d))
+    go ofLocationAccept = bind-local (locationAccept n) _ (accept-laws .local n) (λ d. got-local (isLocationAccept d))
     go ofDownlinks = bind-local (list downlinks n) _ (list-local downlinks-sound n) (λ l. got-local (isDownlinks l))
 
 pub content-passes : (s : Slot) (n : ℕ) → Passes n (content s n)
@@ -50,8 +51,8 @@ content-passes s n = go (s .kind)
     go : (k : Kind) → Passes n (contentOf k n)
     go genericType3 = bind-passes n 0 (type3 n) _ (omega arith) (type3-passes n) (λ g. got-passes (isType3 g))
     go genericType4 = bind-passes n 0 (type4 n) _ (omega arith) (type4-passes n) (λ g. got-passes (isType4 g))
-    go ofLocationDemand = bind-passes n 0 (locationDemand n) _ (omega arith) (location-demand-passes n) (λ d. got-passes (isLocationDemand d))
-    go ofLocationAccept = bind-passes n 0 (locationAccept n) _ (omega arith) (location-accept-passes n) (λ d. got-passes (isLocationAccept d))
+    go ofLocationDemand = bind-passes n 0 (locationDemand n) _ (omega arith) (demand-laws .passes n) (λ d. got-passes (isLocationDemand d))
+    go ofLocationAccept = bind-passes n 0 (locationAccept n) _ (omega arith) (accept-laws .passes n) (λ d. got-passes (isLocationAccept d))
     go ofDownlinks = bind-passes n 0 (list downlinks n) _ (omega arith) (list-passes downlinks-sound n) (λ l. got-passes (isDownlinks l))
 
 -- ## what was read is its own normal form
@@ -67,8 +68,8 @@ content-own s n bs {e} {rest} = go (s .kind)
     go : (k : Kind) → contentOf k n bs ≡ got e rest → normalOf k e ≡ e
     go genericType3 = made (type3 n bs) isType3 genericType3 (λ g mid p. refl)
     go genericType4 = made (type4 n bs) isType4 genericType4 (λ g mid p. refl)
-    go ofLocationDemand = made (locationDemand n bs) isLocationDemand ofLocationDemand (λ d mid p. ap isLocationDemand (location-demand-own n bs p))
-    go ofLocationAccept = made (locationAccept n bs) isLocationAccept ofLocationAccept (λ d mid p. ap isLocationAccept (location-accept-own n bs p))
+    go ofLocationDemand = made (locationDemand n bs) isLocationDemand ofLocationDemand (λ d mid p. ap isLocationDemand (demand-laws .own n bs d mid p))
+    go ofLocationAccept = made (locationAccept n bs) isLocationAccept ofLocationAccept (λ d mid p. ap isLocationAccept (accept-laws .own n bs d mid p))
     go ofDownlinks = made (list downlinks n bs) isDownlinks ofDownlinks (λ l mid p. ap isDownlinks (list-own downlinks-sound n bs p))
 
 -- ## reading back
@@ -109,41 +110,32 @@ abbrev pub lengthsFit : {G L : Type 0} → Groups G L → Bits → L → Bool
 lengthsFit k xs l = inWidth lengthWidth (length xs) && inWidth lengthWidth (length (optionBits (listBits k) (listHeld k l)))
 
 -- a structure that may be absent and has a list inside, where the answers to the questions are enough for reading back
-module _ {G L D : Type 0} (k : Groups G L) (inner : D → L) (fits : D → Bool) (bits : D → Bits) (s : Slot) (is : D → Element)
-    (inner-fits : (d : D) → fits d ≡ true → listFits k (inner d) ≡ true)
-    (back : (d : D) → fits d ≡ true → ListOk k (inner d) → length (bits d) < 2 ^ lengthWidth → Back content contentBits elementNormal s (is d)) where
-  location-slot-back : (p : Bool) (d : D) → length (k .groups (inner d)) ≡ entriesMost
+module _ {G L D : Type 0} {k : Groups G L} {inner : D → L} {body : Reader D} {structure : ℕ → Reader D} {bits : D → Bits} {fits : D → Bool} {normal : D → D}
+    {Same : D → D → Type 0} (laws : Structure k inner body structure bits fits normal Same) (s : Slot) (is : D → Element) where
+  abbrev pub StructureBack : Bool → D → Type 0
+  StructureBack p d =
+      length (k .groups (inner d)) ≡ entriesMost
       → optionAll fits (held p d) ≡ true
       → optionAll (λ d. listOne k (inner d)) (held p d) ≡ true
       → optionAll (λ d. listListed k (inner d)) (held p d) ≡ true
       → optionAll (λ d. lengthsFit k (bits d) (inner d)) (held p d) ≡ true
       → SlotBack content contentBits elementNormal s (optionMap is (held p d))
-  location-slot-back true d full f o l h =
+
+  structure-slot-back : ((d : D) → length (bits d) < 2 ^ lengthWidth → ((rest : Bits) → structure (length (bits d)) (bits d ++ rest) ≡ got (normal d) rest)
+      → Back content contentBits elementNormal s (is d)) → (p : Bool) (d : D) → StructureBack p d
+  structure-slot-back back true d full f o l h =
       let x = both (inWidth lengthWidth (length (bits d))) _ h in
-      back d f (record { array = full; fits = inner-fits d f; one = o; listed = l; short = ltb-true _ _ (x .1) }) (ltb-true _ _ (x .0))
-  location-slot-back false d full f o l h = tt
+      back d (ltb-true _ _ (x .0))
+      (laws .back d f (record { array = full; fits = laws .inner-fits d f; one = o; listed = l; short = ltb-true _ _ (x .1) }))
+  structure-slot-back back false d full f o l h = tt
 
-pub location-demand-slot-back : (i : ℕ) (o : OptionalLocationDemand) → length (o .value .«group_identity_uplink» .groups) ≡ entriesMost
-    → optionAll locationDemandFits (held (o .present) (o .value)) ≡ true
-    → optionAll (λ d. listOne uplinks (d .«group_identity_uplink»)) (held (o .present) (o .value)) ≡ true
-    → optionAll (λ d. listListed uplinks (d .«group_identity_uplink»)) (held (o .present) (o .value)) ≡ true
-    → optionAll (λ d. lengthsFit uplinks (locationDemandBits d) (d .«group_identity_uplink»)) (held (o .present) (o .value)) ≡ true
-    → SlotBack content contentBits elementNormal (row i ofLocationDemand) (optionMap isLocationDemand (held (o .present) (o .value)))
+pub location-demand-slot-back : (i : ℕ) (o : OptionalLocationDemand) → StructureBack demand-laws (row i ofLocationDemand) isLocationDemand (o .present) (o .value)
 unfolding contentOf contentBitsOf normalOf
-location-demand-slot-back i o =
-    location-slot-back uplinks (λ d. d .«group_identity_uplink») locationDemandFits locationDemandBits (row i ofLocationDemand) isLocationDemand
-    (λ d f. location-demand-fits d f .1) (λ d f ok h. record { short = h; reads = λ rest. rw (location-demand-back d f ok rest) }) (o .present) (o .value)
+location-demand-slot-back i o = structure-slot-back demand-laws _ _ (λ d h b. record { short = h; reads = λ rest. rw (b rest) }) (o .present) (o .value)
 
-pub location-accept-slot-back : (i : ℕ) (o : OptionalLocationAccept) → length (o .value .«group_identity_downlink» .groups) ≡ entriesMost
-    → optionAll locationAcceptFits (held (o .present) (o .value)) ≡ true
-    → optionAll (λ d. listOne downlinks (d .«group_identity_downlink»)) (held (o .present) (o .value)) ≡ true
-    → optionAll (λ d. listListed downlinks (d .«group_identity_downlink»)) (held (o .present) (o .value)) ≡ true
-    → optionAll (λ d. lengthsFit downlinks (locationAcceptBits d) (d .«group_identity_downlink»)) (held (o .present) (o .value)) ≡ true
-    → SlotBack content contentBits elementNormal (row i ofLocationAccept) (optionMap isLocationAccept (held (o .present) (o .value)))
+pub location-accept-slot-back : (i : ℕ) (o : OptionalLocationAccept) → StructureBack accept-laws (row i ofLocationAccept) isLocationAccept (o .present) (o .value)
 unfolding contentOf contentBitsOf normalOf
-location-accept-slot-back i o =
-    location-slot-back downlinks (λ d. d .«group_identity_downlink») locationAcceptFits locationAcceptBits (row i ofLocationAccept) isLocationAccept
-    (λ d f. location-accept-fits d f .1) (λ d f ok h. record { short = h; reads = λ rest. rw (location-accept-back d f ok rest) }) (o .present) (o .value)
+location-accept-slot-back i o = structure-slot-back accept-laws _ _ (λ d h b. record { short = h; reads = λ rest. rw (b rest) }) (o .present) (o .value)
 
 pub downlinks-slot-back : (i : ℕ) (l : OptionalDownlinks) → ListOk downlinks l
     → SlotBack content contentBits elementNormal (row i ofDownlinks) (optionMap isDownlinks (listHeld downlinks l))

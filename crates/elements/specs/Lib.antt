@@ -31,3 +31,7 @@ pub mod PlacedGroups
 pub mod PlacedLists
 pub mod PlacedLocations
 pub mod Parts
+pub mod EachLaws
+pub mod GroupParts
+pub mod GroupsAsked
+pub mod WrittenElements

@@ -20,12 +20,12 @@ use Rattle.elements.specs.declared.group_identity_downlink.OptionalDownl
 abbrev pub entriesMost : ℕ
 entriesMost = 63
 
-module _ {G : Type 0} where
-  -- the bits of each entry
-  unfoldable pub each : (G → Bits) → List G → Bits
-  each bits [] = []
-  each bits (g ∷ gs) = bits g ++ each bits gs
+-- what each entry gives, as its bits, one after the other
+unfoldable pub each : {A G : Type 0} → (G → List A) → List G → List A
+each of [] = []
+each of (g ∷ gs) = of g ++ each of gs
 
+module _ {G : Type 0} where
   -- what is asked of each entry
   unfoldable pub all : (G → Bool) → List G → Bool
   all test [] = true

@@ -1,7 +1,7 @@
 -- Laws of a list inside a structure, and of the two location structures.
 use Prim.Native.Nat.{ℕ, _^_, _<_}
-use mathlib.Core.Path.{_≡_, refl, ap, _∙_}
-use mathlib.Core.Bool.{Bool, true, false, cond}
+use mathlib.Core.Path.{_≡_, refl, sym, ap, _∙_}
+use mathlib.Core.Bool.{Bool, true, false, cond, _&&_}
 use mathlib.Core.Option.{Option, none, some}
 use mathlib.Core.List.{List, [], _∷_, _++_, append-assoc}
 use lib.ListN.{length, getD}
@@ -17,9 +17,9 @@ use Rattle.elements.specs.TableLaws.{scan-local, AllSlots, slots-end, on
 use Rattle.elements.specs.TableWritten.{tableBits}
 use Rattle.elements.specs.TableBack.{distinct, normalSlots, table-back}
 use Rattle.elements.specs.GenericsLaws.{exactly-back}
-use Rattle.elements.specs.Lists.{entriesMost, Groups, list, listOf, listHeld, listBits, listFits, listOne, listListed, listNormal, uplinks, downlinks}
+use Rattle.elements.specs.Lists.{entriesMost, Groups, list, listOf, listHeld, listBits, listFits, listOne, listListed, listNormal, SameList, uplinks, downlinks}
 use Rattle.elements.specs.ListsLaws.{Sound, uplinks-sound, downlinks-sound, list-local, list-back, list-same, list-normal-same, list-own, absent-own}
-use Rattle.elements.specs.Locations.{nested-if, nested, nestedBits, groupIdentityUplink, groupIdentityDownlink, demandReserved, demandFront, demandBody, locationDemand, noLocationDemand, locationDemandBits, locationDemandFits, locationDemandNormal, SameLocationDemand, acceptReserved, acceptFront, acceptBody, locationAccept, noLocationAccept, locationAcceptBits, locationAcceptFits, locationAcceptNormal, SameLocationAccept}
+use Rattle.elements.specs.Locations.{nested-if, nested, nestedBits, groupIdentityUplink, groupIdentityDownlink, demandReserved, demandFront, demandBody, locationDemand, locationDemandBits, locationDemandFits, locationDemandNormal, SameLocationDemand, acceptReserved, acceptFront, acceptBody, locationAccept, locationAcceptBits, locationAcceptFits, locationAcceptNormal, SameLocationAccept}
 use Rattle.elements.specs.declared.group_identity_uplink.OptionalUplinks.{OptionalUplinks}
 use Rattle.elements.specs.declared.group_identity_downlink.OptionalDownlinks.{OptionalDownlinks}
 use Rattle.elements.specs.declared.group_identity_location_demand.GroupIdentityLocationDemand.{GroupIdentityLocationDemand}
@@ -87,33 +87,58 @@ record Front {D : Type 0} (read : (ℕ → Reader D) → Reader D) (write : ℕ 
   back : (f : ℕ → Reader D) (m : ℕ) → inWidth flagWidth m ≡ true → (xs rest : Bits) → read f (write m xs ++ rest) ≡ f m (xs ++ rest)
   goes : (f : ℕ → Reader D) (bs : Bits) (d : D) (rest : Bits) → read f bs ≡ got d rest → (m : ℕ) × (mid : Bits) × (f m mid ≡ got d rest)
 
-module _ {G L D : Type 0} {k : Groups G L} (s : Sound k) (i : ℕ) (of : ℕ → L → D)
+-- THE LAWS OF A STRUCTURE of n bits: it is local, read back, and its own normal form when read; and its normal form is what is present in it
+pub record Structure {G L D : Type 0} (k : Groups G L) (inner : D → L) (body : Reader D) (structure : ℕ → Reader D)
+    (bits : D → Bits) (fits : D → Bool) (normal : D → D) (Same : D → D → Type 0) : Type 0 where
+  pub body-local : Local body
+  pub local : (n : ℕ) → Local (structure n)
+  pub passes : (n : ℕ) → Passes n (structure n)
+  pub inner-fits : (d : D) → fits d ≡ true → listFits k (inner d) ≡ true
+  pub back : (d : D) → fits d ≡ true → ListOk k (inner d) → (rest : Bits) → structure (length (bits d)) (bits d ++ rest) ≡ got (normal d) rest
+  pub own : (n : ℕ) (bs : Bits) (d : D) (rest : Bits) → structure n bs ≡ got d rest → normal d ≡ d
+  pub same : (d e : D) → Same d e → normal d ≡ normal e
+  pub normal-same : (d : D) → fits d ≡ true → length (k .groups (inner d)) ≡ entriesMost → Same d (normal d)
+
+-- how a structure holds its number and its list
+record Made {G L D : Type 0} (k : Groups G L) (of : ℕ → L → D) (number : D → ℕ) (inner : D → L) (Same : D → D → Type 0) : Type 0 where
+  number-of : (m : ℕ) (l : L) → number (of m l) ≡ m
+  inner-of : (m : ℕ) (l : L) → inner (of m l) ≡ l
+  number-same : {d e : D} → Same d e → number d ≡ number e
+  inner-same : {d e : D} → Same d e → SameList k (inner d) (inner e)
+  same-of : {d e : D} → number d ≡ number e → SameList k (inner d) (inner e) → Same d e
+
+module _ {G L D : Type 0} {k : Groups G L} (s : Sound k) (i : ℕ) (apart : distinct (λ i. i) (i ∷ []) ≡ true)
+    {of : ℕ → L → D} {number : D → ℕ} {inner : D → L} {Same : D → D → Type 0} (made : Made k of number inner Same)
     {read : (ℕ → Reader D) → Reader D} {write : ℕ → Bits → Bits} (front : Front read write) where
-  abbrev body : Reader D
-  body = read (λ m. nested k i >>= λ l. got (of m l))
+  structure : let body : Reader D = read (λ m. nested k i >>= λ l. got (of m l)) in
+      Structure k inner body (λ n. exactly n body) (λ d. write (number d) (nestedBits k i (inner d)))
+      (λ d. inWidth flagWidth (number d) && listFits k (inner d)) (λ d. of (number d) (listNormal k (inner d))) Same
+  structure = record {
+    body-local = read-local;
+    local = λ n. exactly-local n body read-local;
+    passes = λ n. exactly-passes n body (local-tail read-local);
+    inner-fits = λ d f. in-width d f .1;
+    back = λ d f ok rest.
+        exactly-back body (write (number d) (nestedBits k i (inner d))) rest
+        (front .back _ (number d) (in-width d f .0) (nestedBits k i (inner d)) rest ∙ rw (nested-back s i apart (inner d) ok rest));
+    own = λ n bs d rest e.
+        let g = front .goes _ bs d rest (exactly-got n body bs e .inner) in
+        split-then (nested k i (g .1)) _ (g .2) (λ l r p q.
+        let was : of (g .0) l ≡ d = cc in
+        rw (← was) ((λ j. of (made .number-of (g .0) l j) (listNormal k (made .inner-of (g .0) l j))) ∙ ap (of (g .0)) (nested-own s i (g .1) p)));
+    same = λ d e h. λ j. of (made .number-same h j) (list-same s (made .inner-same h) j);
+    normal-same = λ d f full.
+        made .same-of (sym (made .number-of (number d) _)) (rw (made .inner-of (number d) (listNormal k (inner d))) (list-normal-same s (inner d) (in-width d f .1) full));
+  }
+    where
+      body : Reader D
+      body = read (λ m. nested k i >>= λ l. got (of m l))
 
-  body-local : Local body
-  body-local = front .local _ (λ m. bind-local (nested k i) _ (nested-local s i) (λ l. got-local (of m l)))
+      read-local : Local body
+      read-local = front .local _ (λ m. bind-local (nested k i) _ (nested-local s i) (λ l. got-local (of m l)))
 
-  location-local : (n : ℕ) → Local (exactly n body)
-  location-local n = exactly-local n body body-local
-
-  location-passes : (n : ℕ) → Passes n (exactly n body)
-  location-passes n = exactly-passes n body (local-tail body-local)
-
-  location-back : distinct (λ i. i) (i ∷ []) ≡ true → (m : ℕ) (l : L) → inWidth flagWidth m ≡ true → ListOk k l → (rest : Bits)
-      → exactly (length (write m (nestedBits k i l))) body (write m (nestedBits k i l) ++ rest) ≡ got (of m (listNormal k l)) rest
-  location-back apart m l f ok rest =
-      exactly-back body (write m (nestedBits k i l)) rest (front .back _ m f (nestedBits k i l) rest ∙ rw (nested-back s i apart l ok rest))
-
-  -- of a value that was read, the list is its own normal form
-  location-own : (normal : D → D) → ((m : ℕ) (l : L) → normal (of m l) ≡ of m (listNormal k l)) → (n : ℕ) (bs : Bits) {d : D} {rest : Bits}
-      → exactly n body bs ≡ got d rest → normal d ≡ d
-  location-own normal h n bs {d} {rest} e =
-      let g = front .goes _ bs d rest (exactly-got n body bs e .inner) in
-      split-then (nested k i (g .1)) _ (g .2) (λ l r p q.
-      let made : of (g .0) l ≡ d = cc in
-      rw (← made) (h (g .0) l ∙ ap (of (g .0)) (nested-own s i (g .1) p)))
+      in-width : (d : D) → (inWidth flagWidth (number d) && listFits k (inner d)) ≡ true → (inWidth flagWidth (number d) ≡ true) × (listFits k (inner d) ≡ true)
+      in-width d = both (inWidth flagWidth (number d)) (listFits k (inner d))
 
 -- ## location demand
 
@@ -130,45 +155,16 @@ demand-front = record {
       split-then (field flagWidth b₂) f q₂ (λ m b₃ p₃ q₃. (m, b₃, q₃))));
 }
 
-pub location-demand-fits : (d : GroupIdentityLocationDemand) → locationDemandFits d ≡ true
-    → (inWidth flagWidth (d .«group_identity_attach_detach_mode») ≡ true) × (listFits uplinks (d .«group_identity_uplink») ≡ true)
-unfolding locationDemandFits
-location-demand-fits d = both (inWidth flagWidth (d .«group_identity_attach_detach_mode»)) (listFits uplinks (d .«group_identity_uplink»))
-
-pub demand-body-local : Local demandBody
-unfolding demandBody
-demand-body-local = body-local uplinks-sound groupIdentityUplink demandOf demand-front
-
-pub location-demand-local : (n : ℕ) → Local (locationDemand n)
-unfolding locationDemand demandBody
-location-demand-local = location-local uplinks-sound groupIdentityUplink demandOf demand-front
-
-pub location-demand-passes : (n : ℕ) → Passes n (locationDemand n)
-unfolding locationDemand demandBody
-location-demand-passes = location-passes uplinks-sound groupIdentityUplink demandOf demand-front
-
-pub location-demand-back : (d : GroupIdentityLocationDemand) → locationDemandFits d ≡ true → ListOk uplinks (d .«group_identity_uplink») → (rest : Bits)
-    → locationDemand (length (locationDemandBits d)) (locationDemandBits d ++ rest) ≡ got (locationDemandNormal d) rest
-unfolding locationDemand demandBody locationDemandBits locationDemandNormal distinct isListed
-location-demand-back d f =
-    location-back uplinks-sound groupIdentityUplink demandOf demand-front refl (d .«group_identity_attach_detach_mode») (d .«group_identity_uplink») (location-demand-fits d f .0)
-
-pub location-demand-own : (n : ℕ) (bs : Bits) {d : GroupIdentityLocationDemand} {rest : Bits} → locationDemand n bs ≡ got d rest → locationDemandNormal d ≡ d
-unfolding locationDemand demandBody locationDemandNormal
-location-demand-own = location-own uplinks-sound groupIdentityUplink demandOf demand-front locationDemandNormal (λ m l. refl)
-
-pub location-demand-absent-own : locationDemandNormal noLocationDemand ≡ noLocationDemand
-unfolding locationDemandNormal
-location-demand-absent-own = ap (demandOf 0) (absent-own uplinks-sound)
-
-pub location-demand-same : {d e : GroupIdentityLocationDemand} → SameLocationDemand d e → locationDemandNormal d ≡ locationDemandNormal e
-unfolding locationDemandNormal
-location-demand-same s = λ i. demandOf (s .mode i) (list-same uplinks-sound (s .list) i)
-
-pub location-demand-normal-same : (d : GroupIdentityLocationDemand) → locationDemandFits d ≡ true → length (d .«group_identity_uplink» .groups) ≡ entriesMost
-    → SameLocationDemand d (locationDemandNormal d)
-unfolding locationDemandNormal
-location-demand-normal-same d f full = record { mode = refl; list = list-normal-same uplinks-sound (d .«group_identity_uplink») (location-demand-fits d f .1) full }
+pub demand-laws : Structure uplinks (λ d. d .«group_identity_uplink») demandBody locationDemand locationDemandBits locationDemandFits locationDemandNormal SameLocationDemand
+unfolding locationDemand demandBody locationDemandBits locationDemandFits locationDemandNormal distinct isListed
+demand-laws =
+    structure uplinks-sound groupIdentityUplink refl {of = demandOf} {number = λ d. d .«group_identity_attach_detach_mode»} (record {
+      number-of = λ m l. refl;
+      inner-of = λ m l. refl;
+      number-same = λ h. h .mode;
+      inner-same = λ h. h .list;
+      same-of = λ p q. record { mode = p; list = q };
+    }) demand-front
 
 -- ## location accept
 
@@ -185,43 +181,13 @@ accept-front = record {
       split-then (acceptReserved b₁) _ q₁ (λ z b₂ p₂ q₂. (m, b₂, q₂)));
 }
 
-pub location-accept-fits : (d : GroupIdentityLocationAccept) → locationAcceptFits d ≡ true
-    → (inWidth flagWidth (d .«group_identity_accept_reject») ≡ true) × (listFits downlinks (d .«group_identity_downlink») ≡ true)
-unfolding locationAcceptFits
-location-accept-fits d = both (inWidth flagWidth (d .«group_identity_accept_reject»)) (listFits downlinks (d .«group_identity_downlink»))
-
-pub accept-body-local : Local acceptBody
-unfolding acceptBody
-accept-body-local = body-local downlinks-sound groupIdentityDownlink acceptOf accept-front
-
-pub location-accept-local : (n : ℕ) → Local (locationAccept n)
-unfolding locationAccept acceptBody
-location-accept-local = location-local downlinks-sound groupIdentityDownlink acceptOf accept-front
-
-pub location-accept-passes : (n : ℕ) → Passes n (locationAccept n)
-unfolding locationAccept acceptBody
-location-accept-passes = location-passes downlinks-sound groupIdentityDownlink acceptOf accept-front
-
-pub location-accept-back : (d : GroupIdentityLocationAccept) → locationAcceptFits d ≡ true → ListOk downlinks (d .«group_identity_downlink») → (rest : Bits)
-    → locationAccept (length (locationAcceptBits d)) (locationAcceptBits d ++ rest) ≡ got (locationAcceptNormal d) rest
-unfolding locationAccept acceptBody locationAcceptBits locationAcceptNormal distinct isListed
-location-accept-back d f =
-    location-back downlinks-sound groupIdentityDownlink acceptOf accept-front refl (d .«group_identity_accept_reject») (d .«group_identity_downlink») (location-accept-fits d f .0)
-
-pub location-accept-own : (n : ℕ) (bs : Bits) {d : GroupIdentityLocationAccept} {rest : Bits} → locationAccept n bs ≡ got d rest → locationAcceptNormal d ≡ d
-unfolding locationAccept acceptBody locationAcceptNormal
-location-accept-own = location-own downlinks-sound groupIdentityDownlink acceptOf accept-front locationAcceptNormal (λ m l. refl)
-
-pub location-accept-absent-own : locationAcceptNormal noLocationAccept ≡ noLocationAccept
-unfolding locationAcceptNormal
-location-accept-absent-own = ap (acceptOf 0) (absent-own downlinks-sound)
-
-pub location-accept-same : {d e : GroupIdentityLocationAccept} → SameLocationAccept d e → locationAcceptNormal d ≡ locationAcceptNormal e
-unfolding locationAcceptNormal
-location-accept-same s = λ i. acceptOf (s .accept-reject i) (list-same downlinks-sound (s .list) i)
-
-pub location-accept-normal-same : (d : GroupIdentityLocationAccept) → locationAcceptFits d ≡ true → length (d .«group_identity_downlink» .groups) ≡ entriesMost
-    → SameLocationAccept d (locationAcceptNormal d)
-unfolding locationAcceptNormal
-location-accept-normal-same d f full =
-    record { accept-reject = refl; list = list-normal-same downlinks-sound (d .«group_identity_downlink») (location-accept-fits d f .1) full }
+pub accept-laws : Structure downlinks (λ d. d .«group_identity_downlink») acceptBody locationAccept locationAcceptBits locationAcceptFits locationAcceptNormal SameLocationAccept
+unfolding locationAccept acceptBody locationAcceptBits locationAcceptFits locationAcceptNormal distinct isListed
+accept-laws =
+    structure downlinks-sound groupIdentityDownlink refl {of = acceptOf} {number = λ d. d .«group_identity_accept_reject»} (record {
+      number-of = λ m l. refl;
+      inner-of = λ m l. refl;
+      number-same = λ h. h .accept-reject;
+      inner-same = λ h. h .list;
+      same-of = λ p q. record { accept-reject = p; list = q };
+    }) accept-front

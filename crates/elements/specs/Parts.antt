@@ -1,15 +1,15 @@
 -- A table whose slots are generic but for one: it is read in two parts, with that slot between them.
 use Prim.Native.Nat.{ℕ, _+_, _≤_}
 use native.Mathlib.Omega.{arith}
-use mathlib.Core.Path.{_≡_, refl, sym, ap, _∙_}
+use mathlib.Core.Path.{_≡_, sym, ap, _∙_}
 use mathlib.Core.Bool.{Bool, true, false}
 use mathlib.Core.Option.{Option}
 use mathlib.Core.List.{List, [], _∷_, _++_, map, append-nil}
 use lib.ListN.{length, length-append}
 use lib.Seq.{sets}
 use Rattle.bits.specs.Bits.{Bits}
-use Rattle.bits.specs.Reader.{Answer, got, refused, Reader, then, _>>=_, Tail}
-use Rattle.bits.specs.ReaderLaws.{then-then, then-same, local·rules, local-tail, bind-tail, split-then}
+use Rattle.bits.specs.Reader.{got, Reader, then, _>>=_, Tail}
+use Rattle.bits.specs.ReaderLaws.{then-then, then-same, then-both, local·rules, local-tail, bind-tail, split-then}
 use Rattle.bits.specs.Placed.{window, Placed, placed, halted}
 use Rattle.bits.specs.PlacedLaws.{Gives, told, step, stop, done}
 use Rattle.bits.specs.PlacedTimes.{alike}
@@ -19,7 +19,8 @@ use Rattle.elements.specs.TableLaws.{closing-local}
 use Rattle.elements.specs.Kinds.{Slot, Element, identifierOf, content}
 use Rattle.elements.specs.KindsLaws.{content-local}
 use Rattle.elements.specs.Rows.{genericRow, genericIn, genericSlot, generics, skipping, tableEnd, noGenerics, slotsIn, behindPart, part}
-use Rattle.elements.specs.PlacedTable.{skip-fewer, skipping-tail, held-tail, generic-slot-tail}
+use Rattle.elements.specs.PlacedOptional.{made-of, made-not, ends}
+use Rattle.elements.specs.PlacedTable.{skip-fewer, skipping-tail, held-tail, generic-slot-tail, filled}
 use Rattle.elements.specs.declared.typed_pdu_fields.Generic.{Generic}
 use Rattle.elements.specs.declared.typed_pdu_fields.Row.{Row}
 use Rattle.elements.specs.declared.typed_pdu_fields.Slots.{Slots}
@@ -62,24 +63,15 @@ module _ (table : List Slot) (b : Bool) where
   unfolding scan generics genericSlot
   front [] ts fin more h bs =
       then-same (scanned ts bs) (λ y rest. let z : 0 + y .skipped ≡ y .skipped = omega arith in rw z) ∙ h (counted 0 []) [] bs no-more
-  front {X} (r ∷ rs) ts fin more h bs = skips (front rs ts) (skipping table b bs)
-    where
-      slots : (n : ℕ) → Front X rs ts → (y : Answer (Option Element))
-          → then (then y (λ a. scanned (map genericRow rs ++ ts) >>= λ x. got (counted (n + x .skipped) (a ∷ x .value)))) fin
-          ≡ then (then (then y (λ o. got (genericIn r o))) (λ g. generics table rs b >>= λ x. got (counted (n + x .skipped) (g ∷ x .value)))) more
-      slots n ih (got v rest) =
-          then-then (scanned (map genericRow rs ++ ts) rest) _ fin
-          ∙ ih (λ x. fin (counted (n + x .skipped) (v ∷ x .value))) (λ x. more (counted (n + x .skipped) (genericIn r v ∷ x .value))) (λ x vs m e.
-          then-same (scanned ts m) (λ y rest. let z : n + (x .skipped + y .skipped) ≡ n + x .skipped + y .skipped = omega arith in rw z)
-          ∙ h (counted (n + x .skipped) (genericIn r v ∷ x .value)) (v ∷ vs) m (one-more e)) rest
-          ∙ sym (then-then (generics table rs b rest) _ more)
-      slots n ih (refused k) = refl
-
-      skips : Front X rs ts → (y : Answer ℕ)
-          → then (then y (λ n. slot identifierOf content (genericRow r) >>= λ a. scanned (map genericRow rs ++ ts) >>= λ x. got (counted (n + x .skipped) (a ∷ x .value)))) fin
-          ≡ then (then y (λ n. (slot identifierOf content (genericRow r) >>= λ o. got (genericIn r o)) >>= λ g. generics table rs b >>= λ x. got (counted (n + x .skipped) (g ∷ x .value)))) more
-      skips ih (got n rest) = slots n ih (slot identifierOf content (genericRow r) rest)
-      skips ih (refused k) = refl
+  front (r ∷ rs) ts fin more h bs =
+      then-both (skipping table b bs) _ _ _ _ (λ n mid.
+      then-both (slot identifierOf content (genericRow r) mid) _ _ _ _ (λ v rest.
+      then-then (scanned (map genericRow rs ++ ts) rest) _ fin
+      ∙ front rs ts (λ x. fin (counted (n + x .skipped) (v ∷ x .value))) (λ x. more (counted (n + x .skipped) (genericIn r v ∷ x .value))) (λ x vs m e.
+      then-same (scanned ts m) (λ y rest. let z : n + (x .skipped + y .skipped) ≡ n + x .skipped + y .skipped = omega arith in rw z)
+      ∙ h (counted (n + x .skipped) (genericIn r v ∷ x .value)) (v ∷ vs) m (one-more e)) rest
+      ∙ sym (then-then (generics table rs b rest) _ more))
+      ∙ ap (λ z. then z more) (sym (then-then (slot identifierOf content (genericRow r) mid) _ _)))
 
   -- ## what the parts leave, and how much they can skip
 
@@ -138,9 +130,6 @@ module _ (table : List Slot) (b : Bool) where
         omega (arith, skipping-bounded .most bs n m₁ p₁, shorter (generic-slot-tail r) p₂, generics-bounded rs .most m₂ y m₃ p₃, ap length left))));
   }
 
-  pub generics-most : (rs : List Row) {os : List ℕ} {c k : Cursor} {x : Counted (List Generic)} → Gives (generics table rs b) os c (placed x k) → x .skipped + c .at ≤ k .at
-  generics-most rs = at-most (generics-bounded rs) (generics-tail rs)
-
   pub behind-most : (last : Bool) {os : List ℕ} {c k : Cursor} {n : ℕ} → Gives (behindPart last table b) os c (placed n k) → n + c .at ≤ k .at
   behind-most last = at-most (behind-bounded last) (behind-tail last)
 
@@ -153,6 +142,25 @@ module _ (table : List Slot) (b : Bool) where
           let left : m₂ ≡ rest = cc in
           omega (arith, generics-bounded rs .most bs x m₁ p₁, behind-bounded last .most m₁ n m₂ p₂, ap length left)));
     }) (part-tail rs last before from)
+
+  -- a part, by its slots and by what is behind them
+  module _ (rs : List Row) (last : Bool) (before : List Generic) (from : ℕ) {os : List ℕ} {c : Cursor} where
+    pub no-slots : {n : ℕ} → Gives (filled table b before from rs) os c (halted n) → Gives (part table rs last b before from) os c (halted n)
+    unfolding part
+    no-slots e = stop _ (made-not (slotsIn before from) (generics table rs b) e)
+
+    module _ {s : Slots} {k : Cursor} (e : Gives (filled table b before from rs) os c (placed s k)) where
+      behind-slots : {y : Placed Slots} → ((x : Counted (List Generic)) → slotsIn before from x ≡ s
+          → Gives (behindPart last table b >>= λ n. got (slotsIn before from (counted (x .skipped + n) (x .value)))) os k y) → Gives (part table rs last b before from) os c y
+      unfolding part
+      behind-slots h = made-of (slotsIn before from) (generics table rs b) e (generics-tail rs) (λ x p g. step _ g (generics-tail rs) (h x p))
+
+      pub no-behind : {n : ℕ} → Gives (behindPart last table b) os k (halted n) → Gives (part table rs last b before from) os c (halted n)
+      no-behind g = behind-slots (λ x p. stop _ g)
+
+      pub part-read : {n : ℕ} {j : Cursor} → Gives (behindPart last table b) os k (placed n j)
+          → Gives (part table rs last b before from) os c (placed (record { skipped = s .skipped + n; generics = s .generics }) j)
+      part-read {n} g = behind-slots (λ x p. step _ g (behind-tail last) (ends (ap (λ (s : Slots). record { skipped = s .skipped + n; generics = s .generics }) p)))
 
   -- a part without slots: the array stays as it was
   module _ (last : Bool) (before : List Generic) (from : ℕ) {os : List ℕ} {c : Cursor} {n : ℕ} where
@@ -202,40 +210,20 @@ module _ (table : List Slot) (b : Bool) where
     in-parts : (bs : Bits) → whole bs ≡ inParts bs
     unfolding scan part
     in-parts bs =
-        front (p .before) (p .own ∷ map genericRow (p .behind)) _ (λ x. (skipping table b >>= λ n. got (front-part x n)) >>= behind-front)
-        (λ x vs m e. skips x vs e (skipping table b m)) bs
+        front (p .before) (p .own ∷ map genericRow (p .behind)) _ (λ x. (skipping table b >>= λ n. got (front-part x n)) >>= behind-front) (λ x vs m e.
+        then-both (skipping table b m) _ _ _ _ (λ n mid.
+        then-both (slot identifierOf content (p .own) mid) _ _ _ _ (λ v rest.
+        then-then (scanned (map genericRow (p .behind)) rest) _ (onto (x .skipped) vs)
+        ∙ (rw (append-nil (map genericRow (p .behind))) at (front (p .behind) [] (λ z. onto (x .skipped) vs (counted (n + z .skipped) (v ∷ z .value)))
+        (λ y. (tableEnd table b >>= λ k. got (back-part x y k)) >>= joined (front-part x n) (p .out v)) (λ y ws m f.
+        then-both (skipping table b m) _ _ _ _ (λ k mid.
+        then-both (closing mid) _ _ _ _ (λ u rest.
+        let z : x .skipped + (n + (y .skipped + k)) ≡ x .skipped + n + (y .skipped + k) = omega arith in
+        rw (z, append-nil ws, p .same vs ws v (x .value) (y .value) e f))
+        ∙ ap (λ z. then z (joined (front-part x n) (p .out v))) (sym (then-then (closing mid) _ _)))
+        ∙ ap (λ z. then z (joined (front-part x n) (p .out v))) (sym (then-then (skipping table b m) _ _))) rest))
+        ∙ sym (then-then (generics table (p .behind) b rest) _ (joined (front-part x n) (p .out v)))))) bs
         ∙ sym (then-then (generics table (p .before) b bs) _ behind-front)
-      where
-        closes : (x y : Counted (List Generic)) (vs ws : List (Option Element)) (v : Option Element) (n m : ℕ) → Each (p .before) vs (x .value) → Each (p .behind) ws (y .value) → (u : Answer Unit)
-            → then (then u (λ u. got (counted m []))) (λ (w : Counted (List (Option Element))). onto (x .skipped) vs (counted (n + (y .skipped + w .skipped)) (v ∷ (ws ++ w .value))))
-            ≡ then (then (then u (λ u. got m)) (λ m. got (back-part x y m))) (joined (front-part x n) (p .out v))
-        closes x y vs ws v n m e f (got u rest) =
-            let z : x .skipped + (n + (y .skipped + m)) ≡ x .skipped + n + (y .skipped + m) = omega arith in
-            rw (z, append-nil ws, p .same vs ws v (x .value) (y .value) e f)
-        closes x y vs ws v n m e f (refused k) = refl
-
-        ends : (x y : Counted (List Generic)) (vs ws : List (Option Element)) (v : Option Element) (n : ℕ) → Each (p .before) vs (x .value) → Each (p .behind) ws (y .value) → (z : Answer ℕ)
-            → then (then z (λ m. closing >>= λ u. got (counted m []))) (λ (w : Counted (List (Option Element))). onto (x .skipped) vs (counted (n + (y .skipped + w .skipped)) (v ∷ (ws ++ w .value))))
-            ≡ then (then (then z (λ m. closing >>= λ u. got m)) (λ m. got (back-part x y m))) (joined (front-part x n) (p .out v))
-        ends x y vs ws v n e f (got m rest) = closes x y vs ws v n m e f (closing rest)
-        ends x y vs ws v n e f (refused k) = refl
-
-        slots : (x : Counted (List Generic)) (vs : List (Option Element)) (n : ℕ) → Each (p .before) vs (x .value) → (y : Answer (Option Element))
-            → then (then y (λ a. scanned (map genericRow (p .behind)) >>= λ z. got (counted (n + z .skipped) (a ∷ z .value)))) (onto (x .skipped) vs)
-            ≡ then (then y (λ o. got (p .out o))) (λ a. part table (p .behind) true b (front-part x n .generics) (p .from) >>= joined (front-part x n) a)
-        slots x vs n e (got v rest) =
-            then-then (scanned (map genericRow (p .behind)) rest) _ (onto (x .skipped) vs)
-            ∙ (rw (append-nil (map genericRow (p .behind))) at (front (p .behind) [] (λ z. onto (x .skipped) vs (counted (n + z .skipped) (v ∷ z .value)))
-            (λ y. (tableEnd table b >>= λ m. got (back-part x y m)) >>= joined (front-part x n) (p .out v))
-            (λ y ws m f. ends x y vs ws v n e f (skipping table b m)) rest))
-            ∙ sym (then-then (generics table (p .behind) b rest) _ (joined (front-part x n) (p .out v)))
-        slots x vs n e (refused k) = refl
-
-        skips : (x : Counted (List Generic)) (vs : List (Option Element)) → Each (p .before) vs (x .value) → (y : Answer ℕ)
-            → then (then y (λ n. slot identifierOf content (p .own) >>= λ a. scanned (map genericRow (p .behind)) >>= λ z. got (counted (n + z .skipped) (a ∷ z .value)))) (onto (x .skipped) vs)
-            ≡ then (then y (λ n. got (front-part x n))) behind-front
-        skips x vs e (got n rest) = slots x vs n e (slot identifierOf content (p .own) rest)
-        skips x vs e (refused k) = refl
 
     -- ## at a cursor
 
@@ -247,19 +235,23 @@ module _ (table : List Slot) (b : Bool) where
       no-front e = parted (stop _ e)
 
       module _ {f : Slots} {c₁ : Cursor} (e₁ : Gives (part table (p .before) false b noGenerics 0) os c (placed f c₁)) where
+        from-slot : {x : Placed (Counted X)} → Gives (behind-front f) os c₁ x → Gives whole os c x
+        from-slot h = parted (step _ e₁ (part-tail (p .before) false noGenerics 0) h)
+
         pub no-slot : {n : ℕ} → Gives between os c₁ (halted n) → Gives whole os c (halted n)
-        no-slot e = parted (step _ e₁ (part-tail (p .before) false noGenerics 0) (stop _ e))
+        no-slot e = from-slot (stop _ e)
 
         module _ {a : A} {c₂ : Cursor} (e₂ : Gives between os c₁ (placed a c₂)) where
+          from-back : {x : Placed (Counted X)} → Gives (part table (p .behind) true b (f .generics) (p .from) >>= joined f a) os c₂ x → Gives whole os c x
+          from-back h = from-slot (step _ e₂ (held-tail (p .own) (p .out)) h)
+
           pub no-back : {n : ℕ} → Gives (part table (p .behind) true b (f .generics) (p .from)) os c₂ (halted n) → Gives whole os c (halted n)
-          no-back e = parted (step _ e₁ (part-tail (p .before) false noGenerics 0) (step _ e₂ (held-tail (p .own) (p .out)) (stop _ e)))
+          no-back e = from-back (stop _ e)
 
           module _ {g : Slots} {c₃ : Cursor} (e₃ : Gives (part table (p .behind) true b (f .generics) (p .from)) os c₂ (placed g c₃)) where
             -- THE TABLE IS READ
             pub all-read : Gives whole os c (placed (counted (f .skipped + g .skipped) (p .held a (g .generics))) c₃)
-            all-read =
-                parted (step _ e₁ (part-tail (p .before) false noGenerics 0) (step _ e₂ (held-tail (p .own) (p .out))
-                (step _ e₃ (part-tail (p .behind) true (f .generics) (p .from)) done)))
+            all-read = from-back (step _ e₃ (part-tail (p .behind) true (f .generics) (p .from)) done)
 
             pub all-most : f .skipped + g .skipped + c .at ≤ c₃ .at
             all-most =

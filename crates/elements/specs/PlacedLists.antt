@@ -9,21 +9,18 @@ use lib.ListN.{length, take, drop, set, replicate, length-set}
 use lib.Seq.{length-take-le}
 use lib.Dec.{leb}
 use borrow.Author.Tests.{le-leb, lt-leb}
-use Rattle.bits.specs.PduParseError.{type4Underflow, inconsistentLength}
-use Rattle.bits.specs.Reader.{field, exactly, Tail}
-use Rattle.bits.specs.ReaderLaws.{local-tail, field-local, unless-local}
+use Rattle.bits.specs.Bits.{Bits}
+use Rattle.bits.specs.PduParseError.{type4Underflow}
+use Rattle.bits.specs.Reader.{Reader, _>>=_, field, unless, exactly, Tail}
+use Rattle.bits.specs.ReaderLaws.{then-then, then-same, local-tail, field-local, unless-local}
 use Rattle.bits.specs.Placed.{Placed, placed, halted, at}
-use Rattle.bits.specs.PlacedLaws.{Gives, told, step, stop}
-use Rattle.bits.specs.PlacedTimes.{passed, failed, exact, inexact, exact-stop, gathered, gathered-none, turned, turned-not, set-behind, padded-array}
+use Rattle.bits.specs.PlacedLaws.{Gives, step, stop}
+use Rattle.bits.specs.PlacedTimes.{passed, failed, gathered, gathered-none, turned, turned-not, set-behind, padded-array}
 use Rattle.bits.specs.declared.bitbuffer.Cursor.{Cursor}
-use Rattle.bits.specs.declared.bitbuffer.Moved.{Moved}
-use Rattle.bits.specs.declared.bitbuffer.Moved.the-variants as M
-use Rattle.elements.specs.Generics.{entriesWidth}
+use Rattle.elements.specs.Generics.{entriesWidth, entries}
 use Rattle.elements.specs.Table.{lengthWidth}
 use Rattle.elements.specs.Lists.{Groups, listOf, groupsRead, list, entriesMost}
-use Rattle.elements.specs.ListsLaws.{Sound, entries-local}
 use Rattle.elements.specs.Rows.{sized}
-use Rattle.elements.specs.Verdicts.{answer, returned, Beside, verdict-to, verdict-refused}
 
 -- ## a loop that fills the array
 
@@ -55,10 +52,10 @@ module _ {G L : Type 0} (k : Groups G L) where
             zeros = set-behind (k .zero) groups (replicate entriesMost (k .zero)) i g (f .zeros);
           }
 
-      pub filled-not : {m : ℕ} → i < n → Gives (k .group) os place (halted m) → at (groupsRead k n) os c ≡ halted m
-      filled-not {m} h e = f .rest ∙ turned-not listed (k .group) os place i n groups h m e
+      pub filled-not : {m : ℕ} → i < n → Gives (k .group) os place (halted m) → Gives (groupsRead k n) os c (halted m)
+      filled-not {m} h e = record { eq = f .rest ∙ turned-not listed (k .group) os place i n groups h m e }
 
-      pub filled-all : n ≤ i → n ≤ entriesMost → at (groupsRead k n) os c ≡ placed (k .make true n groups) place
+      pub filled-all : n ≤ i → n ≤ entriesMost → Gives (groupsRead k n) os c (placed (k .make true n groups) place)
       filled-all h m =
           let w : i ≤ n = f .few in
           let l : length groups ≡ entriesMost = f .long in
@@ -68,47 +65,52 @@ module _ {G L : Type 0} (k : Groups G L) where
           let p : take i groups ++ replicate (entriesMost - length (take i groups)) (k .zero) ≡ groups = rw t (padded-array (k .zero) groups i entriesMost (f .zeros)) in
           let e : at (gathered listed (k .group) (n - i) (take i groups)) os place ≡ placed (listed (take i groups)) place =
           rw z (gathered-none listed (k .group) os place (take i groups)) in
-          f .rest ∙ e ∙ (λ j. placed (k .make true ((t ∙ q) j) (p j)) place)
+          record { eq = f .rest ∙ e ∙ (λ j. placed (k .make true ((t ∙ q) j) (p j)) place) }
+
+-- ## an element that begins with its number of entries, from its length on
+
+module _ {A : Type 0} (r : ℕ → ℕ → Reader A) {os : List ℕ} {c : Cursor} {n : ℕ} {c₁ : Cursor} (e₁ : Gives (field lengthWidth) os c (placed n c₁)) where
+  behind-length : {x : Placed A} → Gives (entries r n) os c₁ x → Gives (sized (entries r)) os c x
+  behind-length g = step _ e₁ (local-tail (field-local lengthWidth)) g
+
+  pub entries-unnumbered : {m : ℕ} → Gives (field entriesWidth) os c₁ (halted m) → Gives (sized (entries r)) os c (halted m)
+  entries-unnumbered e = behind-length (stop _ e)
+
+  module _ {m : ℕ} {c₂ : Cursor} (e₂ : Gives (field entriesWidth) os c₁ (placed m c₂)) where
+    behind-number : {x : Placed A} → Gives (unless (leb entriesWidth n) type4Underflow >>= λ z. r m (n - entriesWidth)) os c₂ x → Gives (sized (entries r)) os c x
+    behind-number g = behind-length (step _ e₂ (local-tail (field-local entriesWidth)) g)
+
+    pub entries-underflow : n < entriesWidth → Gives (sized (entries r)) os c (halted type4Underflow)
+    entries-underflow h = behind-number (stop _ (failed type4Underflow (lt-leb entriesWidth n h)))
+
+    pub entries-there : entriesWidth ≤ n → {x : Placed A} → Gives (r m (n - entriesWidth)) os c₂ x → Gives (sized (entries r)) os c x
+    entries-there h e = behind-number (step _ (passed type4Underflow (le-leb entriesWidth n h)) (local-tail (unless-local (leb entriesWidth n) type4Underflow)) e)
+
+-- the entries made into another value
+pub entries-made : {A B : Type 0} (r : ℕ → ℕ → Reader A) (f : A → Reader B) (bs : Bits)
+    → sized (λ n. entries r n >>= f) bs ≡ sized (entries (λ m n. r m n >>= f)) bs
+entries-made r f bs =
+    then-same (field lengthWidth bs) (λ n rest.
+    then-then (field entriesWidth rest) _ f ∙ then-same (field entriesWidth rest) (λ m end. then-then (unless (leb entriesWidth n) type4Underflow end) _ f))
 
 -- ## a list of groups from its length on
 
-module _ {G L : Type 0} {k : Groups G L} (s : Sound k) {os : List ℕ} {c : Cursor} where
+-- m groups in n bits
+abbrev groupsIn : {G L : Type 0} → Groups G L → ℕ → ℕ → Reader L
+groupsIn k m n = exactly n (groupsRead k m)
+
+module _ {G L : Type 0} (k : Groups G L) {os : List ℕ} {c : Cursor} where
   module _ {n : ℕ} {c₁ : Cursor} (e₁ : Gives (field lengthWidth) os c (placed n c₁)) where
     pub no-number : {m : ℕ} → Gives (field entriesWidth) os c₁ (halted m) → Gives (sized (list k)) os c (halted m)
     unfolding list
-    no-number e = step _ e₁ (local-tail (field-local lengthWidth)) (stop _ e)
+    no-number e = entries-unnumbered (groupsIn k) e₁ e
 
     module _ {m : ℕ} {c₂ : Cursor} (e₂ : Gives (field entriesWidth) os c₁ (placed m c₂)) where
       pub underflow : n < entriesWidth → Gives (sized (list k)) os c (halted type4Underflow)
       unfolding list
-      underflow h =
-          step _ e₁ (local-tail (field-local lengthWidth))
-          (step _ e₂ (local-tail (field-local entriesWidth))
-          (stop _ (failed type4Underflow (lt-leb entriesWidth n h))))
+      underflow h = entries-underflow (groupsIn k) e₁ e₂ h
 
       module _ (h : entriesWidth ≤ n) where
-        held-to : {x : Placed L} → Gives (exactly (n - entriesWidth) (groupsRead k m)) os c₂ x → Gives (sized (list k)) os c x
+        pub held-to : {x : Placed L} → Gives (exactly (n - entriesWidth) (groupsRead k m)) os c₂ x → Gives (sized (list k)) os c x
         unfolding list
-        held-to e =
-            step _ e₁ (local-tail (field-local lengthWidth))
-            (step _ e₂ (local-tail (field-local entriesWidth))
-            (step _ (passed type4Underflow (le-leb entriesWidth n h)) (local-tail (unless-local (leb entriesWidth n) type4Underflow)) e))
-
-        -- the answer r to the groups, whose verdict tells the answer to the list
-        module _ {R : Type 0} {f : Placed L → R} {verdict : R → Moved} {value : R → L} (b : Beside f verdict value) {r : R} (e : r ≡ f (at (groupsRead k m) os c₂)) where
-          pub no-groups : {j : ℕ} → verdict r ≡ M.Refused j → r ≡ f (at (sized (list k)) os c)
-          no-groups v = let g = verdict-refused b e v in returned f e g (held-to (exact-stop _ g))
-
-          module _ {c₃ : Cursor} (v : verdict r ≡ M.To c₃) where
-            groups-there : Gives (groupsRead k m) os c₂ (placed (value r) c₃)
-            groups-there = verdict-to b e v
-
-            -- the groups end behind where they begin
-            pub groups-on : c₂ .at ≤ c₃ .at
-            groups-on = told (local-tail (entries-local s m)) groups-there .on
-
-            pub whole-list : c₃ .at - c₂ .at ≡ n - entriesWidth → r ≡ f (at (sized (list k)) os c)
-            whole-list q = returned f e groups-there (held-to (exact _ groups-there (local-tail (entries-local s m)) q))
-
-            pub not-its-length : (c₃ .at - c₂ .at ≡ n - entriesWidth → ⊥) → f (halted inconsistentLength) ≡ f (at (sized (list k)) os c)
-            not-its-length q = answer f (held-to (inexact _ groups-there (local-tail (entries-local s m)) q))
+        held-to e = entries-there (groupsIn k) e₁ e₂ h e

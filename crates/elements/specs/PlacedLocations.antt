@@ -2,9 +2,10 @@
 -- group, any front of a structure and any kind of content.
 use Prim.Native.Nat.{ℕ, _-_, _≤_}
 use mathlib.Core.Path.{_≡_, refl, sym, _∙_}
-use mathlib.Core.Bool.{true}
-use mathlib.Core.Option.{Option, none}
+use mathlib.Core.Bool.{Bool, true, false}
+use mathlib.Core.Option.{Option, none, some}
 use mathlib.Core.List.{List, []}
+use lib.Dec.{eqb}
 use borrow.Author.Tests.{eq-eqb, ne-eqb}
 use Rattle.bits.specs.PduParseError.{inconsistentLength}
 use Rattle.bits.specs.Bits.{Bits}
@@ -14,19 +15,20 @@ use Rattle.bits.specs.Placed.{window, Placed, placed, halted}
 use Rattle.bits.specs.PlacedLaws.{Gives, told, step, stop, done}
 use Rattle.bits.specs.PlacedTimes.{alike, exact, inexact, exact-stop}
 use Rattle.bits.specs.declared.bitbuffer.Cursor.{Cursor}
-use Rattle.elements.specs.Numbers.{flagWidth}
-use Rattle.elements.specs.Table.{counted, closing, slot, scan}
+use Rattle.elements.specs.Numbers.{flagWidth, valueOr}
+use Rattle.elements.specs.Table.{lengthWidth, Look, outside, ends, opens, look, Header, header, counted, closing, slot-if, slot-at, slot, scan}
 use Rattle.elements.specs.TableLaws.{closing-local, slot-tail}
-use Rattle.elements.specs.Lists.{Groups, list, listOf}
+use Rattle.elements.specs.Lists.{Groups, list, listOf, downlinks}
 use Rattle.elements.specs.ListsLaws.{Sound, list-local}
 use Rattle.elements.specs.Locations.{nested-if, nested}
 use Rattle.elements.specs.LocationsLaws.{nested-local}
-use Rattle.elements.specs.Kinds.{Kind, row, Element, heldElement, contentOf, identifierOf, content}
+use Rattle.elements.specs.Kinds.{Kind, ofDownlinks, row, Element, isDownlinks, heldElement, contentOf, identifierOf, content}
 use Rattle.elements.specs.Rows.{sized}
 use Rattle.elements.specs.Answers.{opening}
-use Rattle.elements.specs.GroupAnswers.{nestedSlot}
+use Rattle.elements.specs.GroupAnswers.{nestedSlot, downlinksSlot}
 use Rattle.elements.specs.PlacedTable.{slot-there, sized-made}
 use Rattle.elements.specs.declared.typed_pdu_fields.OptionalU8.{OptionalU8}
+use Rattle.elements.specs.declared.group_identity_downlink.OptionalDownlinks.{OptionalDownlinks}
 
 -- a value that is given as it is
 pub kept : {A : Type 0} (r : Reader A) (bs : Bits) → (r >>= λ a. got a) bs ≡ r bs
@@ -98,12 +100,63 @@ module _ {G L D : Type 0} {k : Groups G L} (s : Sound k) (i : ℕ) (of : L → D
     pub structure-inexact : (c₃ .at - c .at ≡ n → ⊥) → Gives (exactly n body) os c (halted inconsistentLength)
     structure-inexact q = inexact n structure-there tail q
 
+-- ## a list's slot is the same in a message's table and inside a structure
+
+pub downlinks-slot : (i : ℕ) → downlinksSlot i ≡ nestedSlot downlinks i
+unfolding downlinksSlot nestedSlot contentOf
+downlinks-slot i = λ j bs. go bs (look bs) j
+  where
+    there : (y : Answer OptionalDownlinks)
+        → then (then (then y (λ l. got (isDownlinks l))) (λ e. got (some e))) (λ o. got (heldElement o .downlinks))
+        ≡ then (then y (λ l. got (some l))) (λ o. got (valueOr (listOf downlinks none) o))
+    there (got l rest) = refl
+    there (refused n) = refl
+
+    with-header : (y : Answer Header)
+        → then (then (then y (λ h. list downlinks (h .size) >>= λ l. got (isDownlinks l))) (λ e. got (some e))) (λ o. got (heldElement o .downlinks))
+        ≡ then (then (then y (λ h. list downlinks (h .size))) (λ l. got (some l))) (λ o. got (valueOr (listOf downlinks none) o))
+    with-header (got h rest) = there (list downlinks (h .size) rest)
+    with-header (refused n) = refl
+
+    own : (bs : Bits) (b : Bool) → then (slot-if identifierOf content (row i ofDownlinks) b bs) (λ o. got (heldElement o .downlinks))
+        ≡ then (slot-if (λ i. i) (λ i. list downlinks) i b bs) (λ o. got (valueOr (listOf downlinks none) o))
+    own bs true = with-header (header bs)
+    own bs false = refl
+
+    go : (bs : Bits) (l : Look) → then (slot-at identifierOf content (row i ofDownlinks) l bs) (λ o. got (heldElement o .downlinks))
+        ≡ then (slot-at (λ i. i) (λ i. list downlinks) i l bs) (λ o. got (valueOr (listOf downlinks none) o))
+    go bs outside = refl
+    go bs ends = refl
+    go bs (opens j) = own bs (eqb j i)
+
 -- ## a slot of a message's table: its content is what r gives, made into an element
 
-pub row-there : {A B : Type 0} (i : ℕ) (kind : Kind) (r : ℕ → Reader A) (is : A → Element) (out : Element → B) → contentOf kind ≡ (λ n. r n >>= λ a. got (is a))
-    → {os : List ℕ} {c c₁ : Cursor} {o : OptionalU8} → Gives opening os c (placed o c₁) → o .present ≡ true → o .value ≡ i
-    → {x : Placed B} → Gives (sized (λ n. r n >>= λ a. got (out (is a)))) os c₁ x
-    → Gives (slot identifierOf content (row i kind) >>= λ o. got (out (heldElement o))) os c x
-row-there i kind r is out made {os} {c₁ = c₁} e p h g =
-    slot-there identifierOf content (row i kind) _ e p h
-    (alike (sized (λ n. r n >>= λ a. got (out (is a)))) (rw made (sized-made r is out (window os c₁))) g)
+-- the element with the identifier i stands at c, and its length at c₁
+pub record There (i : ℕ) (os : List ℕ) (c c₁ : Cursor) : Type 0 where
+  pub head : OptionalU8
+  pub opens : Gives opening os c (placed head c₁)
+  pub present : head .present ≡ true
+  pub is : head .value ≡ i
+
+module _ {A B : Type 0} (kind : Kind) (r : ℕ → Reader A) (is : A → Element) (out : Element → B) (made : contentOf kind ≡ (λ n. r n >>= λ a. got (is a)))
+    {i : ℕ} {os : List ℕ} {c c₁ : Cursor} (t : There i os c c₁) where
+  pub row-there : {x : Placed B} → Gives (sized (λ n. r n >>= λ a. got (out (is a)))) os c₁ x
+      → Gives (slot identifierOf content (row i kind) >>= λ o. got (out (heldElement o))) os c x
+  row-there g =
+      slot-there identifierOf content (row i kind) _ (t .opens) (t .present) (t .is)
+      (alike (sized (λ n. r n >>= λ a. got (out (is a)))) (rw made (sized-made r is out (window os c₁))) g)
+
+  -- from its length on, one after the other
+  pub row-no-length : {n : ℕ} → Gives (field lengthWidth) os c₁ (halted n) → Gives (slot identifierOf content (row i kind) >>= λ o. got (out (heldElement o))) os c (halted n)
+  row-no-length g = row-there (stop _ g)
+
+  module _ {n : ℕ} {c₂ : Cursor} (e₂ : Gives (field lengthWidth) os c₁ (placed n c₂)) where
+    behind-length : {x : Placed B} → Gives (r n >>= λ a. got (out (is a))) os c₂ x → Gives (slot identifierOf content (row i kind) >>= λ o. got (out (heldElement o))) os c x
+    behind-length g = row-there (step _ e₂ (local-tail (field-local lengthWidth)) g)
+
+    pub row-refused : {m : ℕ} → Gives (r n) os c₂ (halted m) → Gives (slot identifierOf content (row i kind) >>= λ o. got (out (heldElement o))) os c (halted m)
+    row-refused g = behind-length (stop _ g)
+
+    pub row-read : {a : A} {c₃ : Cursor} → Tail (r n) → Gives (r n) os c₂ (placed a c₃)
+        → Gives (slot identifierOf content (row i kind) >>= λ o. got (out (heldElement o))) os c (placed (out (is a)) c₃)
+    row-read tail g = behind-length (step _ g tail done)

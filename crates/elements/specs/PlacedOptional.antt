@@ -5,6 +5,7 @@ use mathlib.Core.Bool.{Bool, true, false}
 use mathlib.Core.Option.{Option, none, some}
 use mathlib.Core.List.{List}
 use lib.Dec.{eqb}
+use borrow.Author.Tests.{eq-eqb, ne-eqb}
 use Rattle.bits.specs.Bits.{Bits}
 use Rattle.bits.specs.Reader.{Answer, Reader, got, refused, then, _>>=_, field, optional, Local, Tail}
 use Rattle.bits.specs.ReaderLaws.{local-tail, field-local, field-lt, got-local, bind-tail, optional-local, split-then, got-refused, then-then, then-same}
@@ -25,8 +26,14 @@ field-small w {os} {c} e = field-lt w (window os c) (told (local-tail (field-loc
 -- ## a reader that runs where it is wanted
 
 module _ {A B : Type 0} (present : A → B) (absent : B) (r : Reader A) {b : Bool} {os : List ℕ} {c : Cursor} where
-  pub wanted : {x : Placed B} → b ≡ true → Gives (r >>= λ a. got (present a)) os c x → Gives (optional present absent b r) os c x
+  wanted : {x : Placed B} → b ≡ true → Gives (r >>= λ a. got (present a)) os c x → Gives (optional present absent b r) os c x
   wanted e g = rw e g
+
+  pub wanted-refused : {n : ℕ} → b ≡ true → Gives r os c (halted n) → Gives (optional present absent b r) os c (halted n)
+  wanted-refused e g = wanted e (stop _ g)
+
+  pub wanted-read : {a : A} {k : Cursor} → b ≡ true → Tail r → Gives r os c (placed a k) → Gives (optional present absent b r) os c (placed (present a) k)
+  wanted-read e t g = wanted e (step _ g t done)
 
   pub unwanted : b ≡ false → Gives (optional present absent b r) os c (placed absent c)
   unwanted e = rw e done
@@ -62,6 +69,14 @@ module _ {A B : Type 0} (f : Option A → B) (b : Bool) (r : Reader A) {os : Lis
   pub option-not : {n : ℕ} → Gives (optional (λ a. f (some a)) (f none) b r) os c (halted n) → Gives (optional some none b r) os c (halted n)
   option-not e = made-not f (optional some none b r) (alike (optional (λ a. f (some a)) (f none) b r) (sym (optional-through f b r (window os c))) e)
 
+-- what may be absent, and what is read behind it, with the value in either form
+pub option-as : {A B X : Type 0} (f : Option A → B) (b : Bool) (r : Reader A) (h : Option A → Reader X) (k : B → Reader X)
+    → ((o : Option A) (rest : Bits) → h o rest ≡ k (f o) rest)
+    → (bs : Bits) → (optional some none b r >>= h) bs ≡ (optional (λ a. f (some a)) (f none) b r >>= k) bs
+option-as f b r h k e bs =
+    then-same (optional some none b r bs) e ∙ sym (then-then (optional some none b r bs) (λ o. got (f o)) k)
+    ∙ ap (λ z. then z k) (sym (optional-through f b r bs))
+
 -- ## a type 2 element that the code holds as f makes it
 
 module _ {A B : Type 0} (f : Option A → B) (r : Reader A) where
@@ -77,3 +92,13 @@ module _ {A B : Type 0} (f : Option A → B) (r : Reader A) where
 
     pub type2-ended : {n : ℕ} → Gives (field flagWidth) os c (halted n) → Gives (type2As f r) os c (halted n)
     type2-ended e = stop _ (stop _ e)
+
+    module _ {p : ℕ} {k : Cursor} (e : Gives (field flagWidth) os c (placed p k)) where
+      pub type2-refused : p ≡ 1 → {n : ℕ} → Gives r os k (halted n) → Gives (type2As f r) os c (halted n)
+      type2-refused h g = type2-there e (wanted-refused _ _ r (eq-eqb p 1 h) g)
+
+      pub type2-read : p ≡ 1 → Tail r → {a : A} {j : Cursor} → Gives r os k (placed a j) → Gives (type2As f r) os c (placed (f (some a)) j)
+      type2-read h t g = type2-there e (wanted-read _ _ r (eq-eqb p 1 h) t g)
+
+      pub type2-absent : (p ≡ 1 → ⊥) → Gives (type2As f r) os c (placed (f none) k)
+      type2-absent h = type2-there e (unwanted _ _ r (ne-eqb p 1 h))

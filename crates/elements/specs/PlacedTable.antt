@@ -3,6 +3,7 @@ use Prim.Native.Nat.{ℕ, zero, suc, _+_, _≤_, _<_, _^_}
 use native.Mathlib.Numerals.{add-one}
 use native.Mathlib.Omega.{arith}
 use mathlib.Core.Path.{_≡_, refl, sym, _∙_, ap}
+use mathlib.Core.Logic.{_⊎_, ⊎-elim}
 use mathlib.Core.Bool.{Bool, true, false, cond}
 use mathlib.Core.Option.{Option, none, some}
 use mathlib.Core.List.{List, [], _∷_}
@@ -18,16 +19,17 @@ use Rattle.bits.specs.PlacedLaws.{Gives, told, told-not, gives-not, step, stop,
 use Rattle.bits.specs.PlacedTimes.{alike}
 use Rattle.bits.specs.declared.bitbuffer.Cursor.{Cursor}
 use Rattle.elements.specs.Numbers.{u8Of, flagWidth}
-use Rattle.elements.specs.Table.{identifierWidth, lengthWidth, outside, ends, opens, look, Header, header, usedOf, whole, Piece, piece, onward, pieces, Counted, counted, isListed, slot, skip}
+use Rattle.elements.specs.Table.{identifierWidth, lengthWidth, outside, ends, opens, look, Header, header, usedOf, whole, Piece, piece, onward, pieces, counted, isListed, slot, skip}
 use Rattle.elements.specs.TableLaws.{Halts, at-end, at-stop, pieces-unfold, pieces-halts, pieces-got, stands-shrinks, slot-tail, skip-tail}
 use Rattle.elements.specs.PlacedOptional.{type2-through}
 use Rattle.elements.specs.Kinds.{Slot, Element, identifierOf, content}
 use Rattle.elements.specs.KindsLaws.{content-local}
-use Rattle.elements.specs.Rows.{sized, skipping, genericRow, genericIn, genericSlot, generics}
-use Rattle.elements.specs.Answers.{optionalU8, opening, scanAnswer}
+use Rattle.elements.specs.Rows.{sized, skipping, genericRow, genericIn, genericSlot, generics, slotsIn}
+use Rattle.elements.specs.Answers.{optionalU8, opening}
 use Rattle.elements.specs.declared.typed_pdu_fields.OptionalU8.{OptionalU8}
 use Rattle.elements.specs.declared.typed_pdu_fields.Generic.{Generic}
 use Rattle.elements.specs.declared.typed_pdu_fields.Row.{Row}
+use Rattle.elements.specs.declared.typed_pdu_fields.Slots.{Slots}
 
 -- ## the look and the opening agree
 
@@ -125,6 +127,11 @@ module _ {S A B : Type 0} (identifier : S → ℕ) (content : S → ℕ → Read
 
     pub slot-other : o .present ≡ true → (o .value ≡ identifier s → ⊥) → {x : Placed B} → Gives (f none) os c x → Gives (slot identifier content s >>= f) os c x
     slot-other p h g = alike (f none) (rw (at-opening e .looks) (rw p (rw (ne-eqb _ _ h)))) g
+
+    -- either of the two
+    pub slot-absent : {P Q : Type 0} → P ⊎ Q → (P → (o .present ≡ true) × (o .value ≡ identifier s → ⊥)) → (Q → o .present ≡ false) → {x : Placed B}
+        → Gives (f none) os c x → Gives (slot identifier content s >>= f) os c x
+    slot-absent came other over g = ⊎-elim (λ w. slot-other (other w .0) (other w .1) g) (λ v. slot-ends (over v) g) came
 
     -- THE ELEMENT IS THERE: its content is read from its length on, and the rest behind it
     pub slot-there : o .present ≡ true → o .value ≡ identifier s → {x : Placed B} → Gives (sized (content s) >>= λ a. f (some a)) os k x
@@ -244,62 +251,51 @@ unfolding genericSlot
 generic-slot-tail r = held-tail (genericRow r) (genericIn r)
 
 module _ (table : List Slot) (b : Bool) where
-  -- the slots that are left, where n elements were skipped before them
-  abbrev pub resumed : ℕ → List Row → Reader (Counted (List Generic))
-  resumed n rs = generics table rs b >>= λ x. got (counted (n + x .skipped) (x .value))
+  -- slots, with their values put into the array from i on
+  abbrev pub filled : List Generic → ℕ → List Row → Reader Slots
+  filled gs i rs = generics table rs b >>= λ x. got (slotsIn gs i x)
 
-  pub resumed-start : (rs : List Row) (bs : Bits) → generics table rs b bs ≡ resumed 0 rs bs
-  resumed-start rs bs = go (generics table rs b bs)
-    where
-      go : (y : Answer (Counted (List Generic))) → y ≡ then y (λ x. got (counted (0 + x .skipped) (x .value)))
-      go (got x rest) = let h : 0 + x .skipped ≡ x .skipped = omega arith in rw h
-      go (refused m) = refl
+  -- the slots that are left, where n elements were skipped before them
+  abbrev pub resumed : List Generic → ℕ → ℕ → List Row → Reader Slots
+  resumed gs i n rs = generics table rs b >>= λ x. got (slotsIn gs i (counted (n + x .skipped) (x .value)))
+
+  pub resumed-start : (gs : List Generic) (i : ℕ) (rs : List Row) (bs : Bits) → filled gs i rs bs ≡ resumed gs i 0 rs bs
+  resumed-start gs i rs bs = then-same (generics table rs b bs) (λ x rest. let h : 0 + x .skipped ≡ x .skipped = omega arith in rw h)
 
   pub skipping-tail : Tail (skipping table b)
   skipping-tail = skip-tail identifierOf content content-local (isListed identifierOf table) b
 
-  module _ (n : ℕ) (r : Row) (rs : List Row) where
-    -- the others behind the first of them, and it before them
-    abbrev others : ℕ → Generic → Reader (Counted (List Generic))
-    others m g = generics table rs b >>= λ x. got (counted (n + (m + x .skipped)) (g ∷ x .value))
+  module _ (gs : List Generic) (i n : ℕ) (r : Row) (rs : List Row) where
+    -- one slot, whose value goes into the array, and the others
+    abbrev turn : Reader Slots
+    turn = skipping table b >>= λ m. genericSlot r >>= λ g. resumed (set gs i g) (i + 1) (n + m) rs
 
-    abbrev turn : Reader (Counted (List Generic))
-    turn = skipping table b >>= λ m. genericSlot r >>= others m
-
-    turn-is : (bs : Bits) → resumed n (r ∷ rs) bs ≡ turn bs
+    turn-is : (bs : Bits) → resumed gs i n (r ∷ rs) bs ≡ turn bs
     unfolding generics
     turn-is bs =
         then-then (skipping table b bs) _ _
         ∙ then-same (skipping table b bs) (λ m mid.
         then-then (genericSlot r mid) _ _
-        ∙ then-same (genericSlot r mid) (λ g rest. then-then (generics table rs b rest) _ _))
+        ∙ then-same (genericSlot r mid) (λ g rest.
+        then-then (generics table rs b rest) _ _
+        ∙ then-same (generics table rs b rest) (λ x end. let h : n + (m + x .skipped) ≡ n + m + x .skipped = omega arith in rw (h, add-one i))))
 
-  module _ (n : ℕ) {os : List ℕ} {c : Cursor} where
-    pub resumed-end : {rs : List Row} → rs ≡ [] → Gives (resumed n rs) os c (placed (counted n []) c)
+  module _ (gs : List Generic) (i n : ℕ) {os : List ℕ} {c : Cursor} where
+    pub resumed-end : {rs : List Row} → rs ≡ [] → Gives (resumed gs i n rs) os c (placed (record { skipped = n; generics = gs }) c)
     unfolding generics
-    resumed-end q = let h : n + 0 ≡ n = omega arith in rw q (alike (got (counted n [])) (rw h) done)
+    resumed-end q = let h : n + 0 ≡ n = omega arith in rw q (alike (got (slotsIn gs i (counted n []))) (rw h) done)
 
     module _ {r : Row} {rs all : List Row} (q : all ≡ r ∷ rs) where
-      turns : {x : Placed (Counted (List Generic))} → Gives (turn n r rs) os c x → Gives (resumed n all) os c x
-      turns g = rw q (alike (turn n r rs) (turn-is n r rs (window os c)) g)
+      turns : {x : Placed Slots} → Gives (turn gs i n r rs) os c x → Gives (resumed gs i n all) os c x
+      turns g = rw q (alike (turn gs i n r rs) (turn-is gs i n r rs (window os c)) g)
 
-      pub resumed-unskipped : {k : ℕ} → Gives (skipping table b) os c (halted k) → Gives (resumed n all) os c (halted k)
+      pub resumed-unskipped : {k : ℕ} → Gives (skipping table b) os c (halted k) → Gives (resumed gs i n all) os c (halted k)
       resumed-unskipped e = turns (stop _ e)
 
       module _ {m : ℕ} {j : Cursor} (e : Gives (skipping table b) os c (placed m j)) where
-        pub resumed-broken : {k : ℕ} → Gives (genericSlot r) os j (halted k) → Gives (resumed n all) os c (halted k)
+        pub resumed-broken : {k : ℕ} → Gives (genericSlot r) os j (halted k) → Gives (resumed gs i n all) os c (halted k)
         resumed-broken f = turns (step _ e skipping-tail (stop _ f))
 
-        -- ONE TURN: its value is put into the array
-        pub resumed-on : (gs : List Generic) (i : ℕ) {g : Generic} {k : Cursor} → Gives (genericSlot r) os j (placed g k)
-            → scanAnswer gs i (at (resumed n all) os c) ≡ scanAnswer (set gs i g) (i + 1) (at (resumed (n + m) rs) os k)
-        unfolding at
-        resumed-on gs i {g} {k} f =
-            let here : Gives (resumed n all) os c (at (others n r rs m g) os k) = turns (step _ e skipping-tail (step _ f (generic-slot-tail r) (record { eq = refl }))) in
-            ap (scanAnswer gs i) (here .eq) ∙ rw (add-one i) (last (generics table rs b (window os k)))
-          where
-            last : (y : Answer (Counted (List Generic)))
-                → scanAnswer gs i (place k (length (window os k)) (then y (λ x. got (counted (n + (m + x .skipped)) (g ∷ x .value)))))
-                ≡ scanAnswer (set gs i g) (suc i) (place k (length (window os k)) (then y (λ x. got (counted (n + m + x .skipped) (x .value)))))
-            last (got x rest) = let h : n + (m + x .skipped) ≡ n + m + x .skipped = omega arith in rw h
-            last (refused k) = refl
+        pub resumed-on : {g : Generic} {k : Cursor} → Gives (genericSlot r) os j (placed g k)
+            → at (resumed gs i n all) os c ≡ at (resumed (set gs i g) (i + 1) (n + m) rs) os k
+        resumed-on f = turns (step _ e skipping-tail (step _ f (generic-slot-tail r) (record { eq = refl }))) .eq

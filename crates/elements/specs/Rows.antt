@@ -44,6 +44,11 @@ skipping table = skip identifierOf content (isListed identifierOf table)
 abbrev pub tableEnd : List Slot → Bool → Reader ℕ
 tableEnd table b = skipping table b >>= λ n. closing >>= λ z. got n
 
+-- the end of a table that holds nothing, if there is a table
+abbrev pub emptyTable : Bool → Reader Unit
+emptyTable true = closing
+emptyTable false = got tt
+
 -- ## generic slots
 
 abbrev pub fromType3 : OptionalType3 → Generic

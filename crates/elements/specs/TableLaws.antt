@@ -4,7 +4,7 @@ use native.Mathlib.Omega.{arith}
 use mathlib.Core.Path.{_≡_, refl, sym, ap, _∙_}
 use mathlib.Core.Bool.{Bool, true, false, cond, or-true}
 use mathlib.Core.Option.{Option, none, some}
-use mathlib.Core.List.{List, [], _∷_, _++_, append-nil}
+use mathlib.Core.List.{List, [], _∷_, _++_, map, append-nil}
 use lib.ListN.{length, length-append}
 use lib.Dec.{eqb}
 use lib.Seq.{take-at}
@@ -352,6 +352,23 @@ module _ {S A : Type 0} (identifier : S → ℕ) (content : S → ℕ → Reader
       split-then (scan identifier content listed false ss r) _ q (λ y r′ p′ q′.
       let g : counted (0 + y .skipped) (a ∷ y .value) ≡ x = cc in
       rw (← g) (omega (arith, scan-strict listed ss r p′))))
+
+  -- before the closing M-bit nothing is skipped, and no slot holds anything
+  pub scan-empty : (listed : ℕ → Bool) (b : Bool) (ss : List S) (bs : Bits) {rest : Bits} → closing bs ≡ got tt rest
+      → scan identifier content listed b ss bs ≡ got (counted 0 (map (λ s. none) ss)) rest
+  unfolding scan
+  scan-empty listed b ss bs {rest} e = go ss
+    where
+      l : look bs ≡ ends
+      l = closing-ends bs e
+
+      skipped : (b : Bool) → skip identifier content listed b bs ≡ got 0 bs
+      skipped true = rw (pieces-halts listed bs (at-end l))
+      skipped false = refl
+
+      go : (ss : List S) → scan identifier content listed b ss bs ≡ got (counted 0 (map (λ s. none) ss)) rest
+      go [] = rw (skipped b, e)
+      go (s ∷ ss) = rw (skipped b, l, go ss)
 
 -- ## what holds of each value that a content gives
 

@@ -9,12 +9,8 @@ use Rattle.bits.specs.PlacedLaws.{Gives}
 use Rattle.bits.specs.declared.bitbuffer.Cursor.{Cursor}
 use Rattle.bits.specs.declared.bitbuffer.Moved.{Moved}
 use Rattle.bits.specs.declared.bitbuffer.Moved.the-variants as M
-use lib.Seq.{sets}
-use Rattle.elements.specs.Table.{Counted}
-use Rattle.elements.specs.Answers.{genericAnswer, slotsAnswer, scanAnswer}
+use Rattle.elements.specs.Answers.{answerOf, genericAnswer, slotsAnswer}
 use Rattle.elements.specs.GroupAnswers.{uplinksAnswer, downlinksAnswer, locationDemandAnswer, locationDemandSlotAnswer, locationAcceptAnswer, locationAcceptSlotAnswer}
-use Rattle.elements.specs.declared.typed_pdu_fields.Generic.{Generic}
-use Rattle.elements.specs.declared.typed_pdu_fields.ScanRead.{ScanRead}
 
 -- a function's own promise
 pub answer : {A X : Type 0} (f : Placed A → X) {r : Reader A} {os : List ℕ} {c : Cursor} {x : Placed A} → Gives r os c x → f x ≡ f (at r os c)
@@ -63,49 +59,30 @@ module _ {A X : Type 0} {f : Placed A → X} {verdict : X → Moved} {value : X 
 
 -- ## the answers of this crate
 
+beside : {A X : Type 0} {make : Moved → A → X} {absent : A} {verdict : X → Moved} {value : X → A} → ((v : Moved) (a : A) → verdict (make v a) ≡ v)
+    → ((v : Moved) (a : A) → value (make v a) ≡ a) → Beside (answerOf make absent) verdict value
+beside {absent = absent} v w = record { to = λ a k. v (M.To k) a; is = λ a k. w (M.To k) a; not = λ n. v (M.Refused n) absent }
+
 pub generic-beside : Beside genericAnswer (λ r. r .verdict) (λ r. r .element)
-generic-beside = record { to = λ g k. refl; is = λ g k. refl; not = λ n. refl }
+generic-beside = beside (λ v a. refl) (λ v a. refl)
 
 pub slots-beside : Beside slotsAnswer (λ r. r .verdict) (λ r. r .slots)
-slots-beside = record { to = λ s k. refl; is = λ s k. refl; not = λ n. refl }
+slots-beside = beside (λ v a. refl) (λ v a. refl)
 
 pub uplinks-beside : Beside uplinksAnswer (λ r. r .verdict) (λ r. r .list)
-uplinks-beside = record { to = λ l k. refl; is = λ l k. refl; not = λ n. refl }
+uplinks-beside = beside (λ v a. refl) (λ v a. refl)
 
 pub downlinks-beside : Beside downlinksAnswer (λ r. r .verdict) (λ r. r .list)
-downlinks-beside = record { to = λ l k. refl; is = λ l k. refl; not = λ n. refl }
+downlinks-beside = beside (λ v a. refl) (λ v a. refl)
 
 pub location-demand-beside : Beside locationDemandAnswer (λ r. r .verdict) (λ r. r .location)
-location-demand-beside = record { to = λ d k. refl; is = λ d k. refl; not = λ n. refl }
+location-demand-beside = beside (λ v a. refl) (λ v a. refl)
 
 pub location-demand-slot-beside : Beside locationDemandSlotAnswer (λ r. r .verdict) (λ r. r .location)
-location-demand-slot-beside = record { to = λ d k. refl; is = λ d k. refl; not = λ n. refl }
+location-demand-slot-beside = beside (λ v a. refl) (λ v a. refl)
 
 pub location-accept-beside : Beside locationAcceptAnswer (λ r. r .verdict) (λ r. r .location)
-location-accept-beside = record { to = λ d k. refl; is = λ d k. refl; not = λ n. refl }
+location-accept-beside = beside (λ v a. refl) (λ v a. refl)
 
 pub location-accept-slot-beside : Beside locationAcceptSlotAnswer (λ r. r .verdict) (λ r. r .location)
-location-accept-slot-beside = record { to = λ d k. refl; is = λ d k. refl; not = λ n. refl }
-
--- the scan's answer: the values stand in an array
-module _ (gs : List Generic) (i : ℕ) {r : Reader (Counted (List Generic))} {os : List ℕ} {c : Cursor} {y : ScanRead} (e : y ≡ scanAnswer gs i (at r os c)) where
-  pub scan-to : {X : Type 0} {k : Cursor} → y .verdict ≡ M.To k
-      → ((x : Counted (List Generic)) → y .slots ≡ record { skipped = x .skipped; generics = sets gs i (x .value) } → Gives r os c (placed x k) → X) → X
-  scan-to {X} {k} v to = go (at r os c) refl
-    where
-      go : (p : Placed (Counted (List Generic))) → at r os c ≡ p → X
-      go (placed x j) q =
-          let h : M.To j ≡ M.To k = sym (ap (λ (z : ScanRead). z .verdict) (e ∙ ap (scanAnswer gs i) q)) ∙ v in
-          let same : j ≡ k = cc in
-          to x (ap (λ (z : ScanRead). z .slots) (e ∙ ap (scanAnswer gs i) q)) (record { eq = q ∙ ap (placed x) same })
-      go (halted n) q = to-refused (sym v ∙ ap (λ (z : ScanRead). z .verdict) (e ∙ ap (scanAnswer gs i) q))
-
-  pub scan-refused : {n : ℕ} → y .verdict ≡ M.Refused n → Gives r os c (halted n)
-  scan-refused {n} v = go (at r os c) refl
-    where
-      go : (p : Placed (Counted (List Generic))) → at r os c ≡ p → Gives r os c (halted n)
-      go (placed x j) q = to-refused (sym (ap (λ (z : ScanRead). z .verdict) (e ∙ ap (scanAnswer gs i) q)) ∙ v)
-      go (halted m) q =
-          let h : M.Refused m ≡ M.Refused n = sym (ap (λ (z : ScanRead). z .verdict) (e ∙ ap (scanAnswer gs i) q)) ∙ v in
-          let same : m ≡ n = cc in
-          record { eq = q ∙ ap halted same }
+location-accept-slot-beside = beside (λ v a. refl) (λ v a. refl)

@@ -1,15 +1,23 @@
 // Group identity location accept (EN 300 392-2, clause 16.10.23).
 ghost use mathlib.Core.Path.{_≡_};
-ghost use Rattle.bits.specs.Placed.{at};
+ghost use Rattle.bits.specs.Placed.{at, asMoved};
+ghost use Rattle.bits.specs.Written.{write, written, next};
+ghost use Rattle.elements.specs.Numbers.{held};
+ghost use Rattle.elements.specs.WrittenElements.{optionalBits};
 ghost use Rattle.elements.specs.Lists.{downlinks};
-ghost use Rattle.elements.specs.Locations.{nested, groupIdentityDownlink, locationAccept, noLocationAccept};
-ghost use Rattle.elements.specs.GroupAnswers.{downlinksAnswer, nestedSlot, locationAcceptAnswer, locationAcceptSlot, locationAcceptSlotAnswer};
+ghost use Rattle.elements.specs.Locations.{nested, groupIdentityDownlink, locationAccept, noLocationAccept, locationAcceptBits};
+ghost use Rattle.elements.specs.GroupAnswers.{downlinksAnswer, locationAcceptAnswer, locationAcceptSlot, locationAcceptSlotAnswer};
 use crate::group_identity_downlink::DownlinksRead;
 use crate::group_identity_downlink::OptionalDownlinks;
+use crate::group_identity_downlink::ask_downlinks;
 use crate::group_identity_downlink::no_downlinks;
-use crate::group_identity_downlink::parse_downlinks;
+use crate::group_identity_downlink::put_nested;
+use crate::group_identity_downlink::read_downlinks_slot;
 use crate::type34_elem_id_dl::GROUP_IDENTITY_DOWNLINK;
+use crate::type34_elem_id_dl::GROUP_IDENTITY_LOCATION_ACCEPT;
 use crate::typed_pdu_fields::OptionalU8Read;
+use crate::typed_pdu_fields::element_header;
+use crate::typed_pdu_fields::nested_size;
 use crate::typed_pdu_fields::peek_type34_mbit_and_id;
 use crate::typed_pdu_fields::read_closing_mbit;
 use bits::bitbuffer::Cursor;
@@ -17,6 +25,7 @@ use bits::bitbuffer::Field;
 use bits::bitbuffer::Field8;
 use bits::bitbuffer::Moved;
 use bits::pdu_parse_error::INCONSISTENT_LENGTH;
+use bits::pdu_parse_error::WINDOW_TOO_SHORT;
 
 #[repr(C)]
 pub struct GroupIdentityLocationAccept {
@@ -49,28 +58,6 @@ pub fn no_location_accept() -> GroupIdentityLocationAccept
     }
 }
 
-// The slot that holds the list.
-fn read_list_slot(c: Cursor, octets: &[u8]) -> DownlinksRead
-    ensures { λ r. ⌜ r ≡ downlinksAnswer (at (nestedSlot downlinks groupIdentityDownlink) (now (octets .entry)) c) ⌝ }
-{
-    let l = peek_type34_mbit_and_id(c, octets);
-    let OptionalU8Read::Read(id, c1) = l else {
-        return DownlinksRead {
-            verdict: Moved::Refused(l.refusal()),
-            list: no_downlinks(),
-        };
-    };
-    if id.present {
-        if id.value == GROUP_IDENTITY_DOWNLINK {
-            return parse_downlinks(c1, octets);
-        }
-    }
-    DownlinksRead {
-        verdict: Moved::To(c),
-        list: no_downlinks(),
-    }
-}
-
 // O-bit, and behind an O-bit of 1 the list's slot and the closing M-bit.
 fn read_list(c: Cursor, octets: &[u8]) -> DownlinksRead
     ensures { λ r. ⌜ r ≡ downlinksAnswer (at (nested downlinks groupIdentityDownlink) (now (octets .entry)) c) ⌝ }
@@ -83,7 +70,7 @@ fn read_list(c: Cursor, octets: &[u8]) -> DownlinksRead
         };
     };
     if obit == 1 {
-        let r = read_list_slot(c1, octets);
+        let r = read_downlinks_slot(c1, octets, GROUP_IDENTITY_DOWNLINK);
         let v = r.verdict;
         let Moved::To(c2) = v else {
             return r;
@@ -207,4 +194,25 @@ pub fn read_location_accept_slot(c: Cursor, octets: &[u8], identifier: u8) -> Lo
             value: no_location_accept(),
         },
     }
+}
+
+// The element, which may be absent.
+pub fn write_location_accept(m: Moved, octets: &mut [u8], o: OptionalLocationAccept) -> Moved
+    ensures { λ r. ⌜ written (now (octets .exit)) (asMoved r) ≡ next (write (optionalBits 5 locationAcceptBits (held (o .present) (o .value)))) (written (now (octets .entry)) (asMoved m)) ⌝ }
+{
+    if o.present {
+        let d = o.value;
+        let answer = d.group_identity_accept_reject;
+        let list = d.group_identity_downlink;
+        let a = ask_downlinks(list);
+        let size = nested_size(list.present, a.size);
+        if m.has(octets.len(), 18 + size) {
+            let h = element_header(GROUP_IDENTITY_LOCATION_ACCEPT, 2 + size);
+            let b = h.then(answer as u64, 1);
+            let front = b.then(0, 1);
+            return put_nested(m, octets, front, list, a.size);
+        }
+        return m.refuse(WINDOW_TOO_SHORT);
+    }
+    m
 }

@@ -1,15 +1,23 @@
 // Group identity location demand (EN 300 392-2, clause 16.10.24).
 ghost use mathlib.Core.Path.{_≡_};
-ghost use Rattle.bits.specs.Placed.{at};
+ghost use Rattle.bits.specs.Placed.{at, asMoved};
+ghost use Rattle.bits.specs.Written.{write, written, next};
+ghost use Rattle.elements.specs.Numbers.{held};
+ghost use Rattle.elements.specs.WrittenElements.{optionalBits};
 ghost use Rattle.elements.specs.Lists.{uplinks};
-ghost use Rattle.elements.specs.Locations.{nested, groupIdentityUplink, locationDemand, noLocationDemand};
+ghost use Rattle.elements.specs.Locations.{nested, groupIdentityUplink, locationDemand, noLocationDemand, locationDemandBits};
 ghost use Rattle.elements.specs.GroupAnswers.{uplinksAnswer, nestedSlot, locationDemandAnswer, locationDemandSlot, locationDemandSlotAnswer};
 use crate::group_identity_uplink::OptionalUplinks;
 use crate::group_identity_uplink::UplinksRead;
+use crate::group_identity_uplink::ask_uplinks;
 use crate::group_identity_uplink::no_uplinks;
 use crate::group_identity_uplink::parse_uplinks;
+use crate::group_identity_uplink::put_nested;
+use crate::type34_elem_id_ul::GROUP_IDENTITY_LOCATION_DEMAND;
 use crate::type34_elem_id_ul::GROUP_IDENTITY_UPLINK;
 use crate::typed_pdu_fields::OptionalU8Read;
+use crate::typed_pdu_fields::element_header;
+use crate::typed_pdu_fields::nested_size;
 use crate::typed_pdu_fields::peek_type34_mbit_and_id;
 use crate::typed_pdu_fields::read_closing_mbit;
 use bits::bitbuffer::Cursor;
@@ -18,6 +26,7 @@ use bits::bitbuffer::Field8;
 use bits::bitbuffer::Moved;
 use bits::pdu_parse_error::INCONSISTENT_LENGTH;
 use bits::pdu_parse_error::INVALID_VALUE;
+use bits::pdu_parse_error::WINDOW_TOO_SHORT;
 
 #[repr(C)]
 pub struct GroupIdentityLocationDemand {
@@ -214,4 +223,25 @@ pub fn read_location_demand_slot(c: Cursor, octets: &[u8], identifier: u8) -> Lo
             value: no_location_demand(),
         },
     }
+}
+
+// The element, which may be absent.
+pub fn write_location_demand(m: Moved, octets: &mut [u8], o: OptionalLocationDemand) -> Moved
+    ensures { λ r. ⌜ written (now (octets .exit)) (asMoved r) ≡ next (write (optionalBits 3 locationDemandBits (held (o .present) (o .value)))) (written (now (octets .entry)) (asMoved m)) ⌝ }
+{
+    if o.present {
+        let d = o.value;
+        let mode = d.group_identity_attach_detach_mode;
+        let list = d.group_identity_uplink;
+        let a = ask_uplinks(list);
+        let size = nested_size(list.present, a.size);
+        if m.has(octets.len(), 18 + size) {
+            let h = element_header(GROUP_IDENTITY_LOCATION_DEMAND, 2 + size);
+            let b = h.then(0, 1);
+            let front = b.then(mode as u64, 1);
+            return put_nested(m, octets, front, list, a.size);
+        }
+        return m.refuse(WINDOW_TOO_SHORT);
+    }
+    m
 }

@@ -6,9 +6,9 @@ use mathlib.Core.Path.{_≡_, refl, sym, ap, _∙_}
 use mathlib.Core.Bool.{Bool, true, false, cond}
 use mathlib.Core.List.{List, [], _∷_, _++_, append-nil, append-assoc}
 use lib.ListN.{length, length-append, length-take, set, take, getD}
-use lib.Dec.{leb}
-use lib.Seq.{sets, length-sets, take-all}
-use borrow.Author.Tests.{leb-true, leb-false}
+use lib.Seq.{sets, length-sets}
+use Rattle.elements.specs.Lists.{each}
+use Rattle.elements.specs.EachLaws.{each-more, take-most}
 use Rattle.exports.specs.Flat.{highFirst, flatEach, shown}
 
 -- the octets xs are put into f from `at` on, which makes g; `to` is the place behind them
@@ -46,31 +46,25 @@ module _ {G : Type 0} (flat : G → List ℕ) where
   pub none-put : (f : List ℕ) (at : ℕ) (gs : List G) → Put f at (flatEach flat (take 0 gs)) f at
   none-put f at gs = put refl (omega arith)
 
-  each-more : (gs : List G) (i : ℕ) (d : G) → i < length gs → flatEach flat (take (suc i) gs) ≡ flatEach flat (take i gs) ++ flat (getD gs i d)
-  each-more [] i d h = absurd (omega arith)
-  each-more (g ∷ gs) zero d h = append-nil (flat g)
-  each-more (g ∷ gs) (suc i) d h =
-      ap (λ (xs : List ℕ). flat g ++ xs) (each-more gs i d (omega arith)) ∙ sym (append-assoc (flat g) (flatEach flat (take i gs)) (flat (getD gs i d)))
+  as-each : (gs : List G) → flatEach flat gs ≡ each flat gs
+  unfolding each
+  as-each [] = refl
+  as-each (g ∷ gs) = ap (λ (xs : List ℕ). flat g ++ xs) (as-each gs)
 
   -- one more
   pub one-put : {f g h : List ℕ} {at to end : ℕ} (gs : List G) (i : ℕ) (d : G) → i < length gs
       → Put f at (flatEach flat (take i gs)) g to → Put g to (flat (getD gs i d)) h end → Put f at (flatEach flat (take (i + 1) gs)) h end
-  one-put gs i d h p q = let z : i + 1 ≡ suc i = omega arith in rw (z, each-more gs i d h) (p ⨟ q)
+  one-put gs i d h p q = rw (as-each (take (i + 1) gs), each-more flat gs i d h, ← as-each (take i gs)) (p ⨟ q)
 
   -- all of them
   pub all-put : {f g : List ℕ} {at to : ℕ} (gs hs : List G) (i : ℕ) → take i gs ≡ hs → Put f at (flatEach flat (take i gs)) g to → Put f at (flatEach flat hs) g to
   all-put gs hs i e p = rw (← e) p
 
--- as many as there are
-pub take-most : {G : Type 0} (n m : ℕ) (gs : List G) → length gs ≡ m → take (min n m) gs ≡ take n gs
-take-most n m gs e = go (leb n m) refl
-  where
-    go : (b : Bool) → leb n m ≡ b → take (min n m) gs ≡ take n gs
-    go true h = let l = leb-true n m h in let z : min n m ≡ n = omega arith in rw z
-    go false h =
-        let l = leb-false n m h in
-        let z : min n m ≡ m = omega arith in
-        rw z (take-all m gs (omega arith) ∙ sym (take-all n gs (omega arith)))
+-- a list: what stands before its groups, and the groups that are shown
+pub shown-put : {G : Type 0} (flat : G → List ℕ) (b : Bool) (n : ℕ) (gs : List G) (i : ℕ) {f g h : List ℕ} {at to end : ℕ} {xs : List ℕ} → length gs ≡ 63 → i ≡ shown b n
+    → Put f at xs g to → Put g to (flatEach flat (take i gs)) h end → Put f at (xs ++ cond b (flatEach flat (take n gs)) []) h end
+shown-put flat true n gs i l e p q = p ⨟ (rw (e, take-most n 63 gs l) at q)
+shown-put flat false n gs i l e p q = p ⨟ (rw e at q)
 
 -- what is put where the test holds
 module _ {f g : List ℕ} {at to : ℕ} {ys : List ℕ} (p : Put f at ys g to) (b : Bool) (xs : List ℕ) where
@@ -90,3 +84,8 @@ module _ {G : Type 0} (flat : G → List ℕ) (w : ℕ) (long : (g : G) → leng
   pub length-shown : (p : Bool) (n : ℕ) (gs : List G) → length gs ≡ 63 → length (cond p (flatEach flat (take n gs)) []) ≡ w * shown p n
   length-shown true n gs e = length-each (take n gs) ∙ ap (λ (k : ℕ). w * k) (length-take n gs ∙ ap (λ (k : ℕ). min n k) e)
   length-shown false n gs e = sym (mul-zero w)
+
+  -- and what stands behind it
+  pub length-list : (p : Bool) (n : ℕ) (gs : List G) (ys : List ℕ) → length gs ≡ 63
+      → length (cond p (flatEach flat (take n gs)) [] ++ ys) ≡ w * shown p n + length ys
+  length-list p n gs ys e = length-append (cond p (flatEach flat (take n gs)) []) ys ∙ ap (λ (k : ℕ). k + length ys) (length-shown p n gs e)

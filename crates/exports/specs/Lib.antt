@@ -1,3 +1,5 @@
 pub mod Flat
+pub mod FlatExample
 pub mod FlatLaws
 pub mod ReadLaws
+pub mod ReadNumbers

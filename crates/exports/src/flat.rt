@@ -253,27 +253,6 @@ fn put_uplink_groups(
     place
 }
 
-// The first `count` groups, at most 63.
-fn put_downlink_groups(
-    flat: &mut [u8],
-    at: usize,
-    count: usize,
-    groups: [GroupIdentityDownlink; 63],
-) -> usize
-    requires { ⌜ at + 56 * min count 63 ≤ length (now flat) ⌝ }
-    ensures { λ r. ⌜ Put (now (flat .entry)) at (flatEach flatDownlink (take count groups)) (now (flat .exit)) r ⌝ }
-{
-    let n = at_most_63(count);
-    let mut place = at;
-    let mut i: usize = 0;
-    while i < n {
-        let g = groups[i];
-        place = put_downlink(flat, place, g);
-        i += 1;
-    }
-    place
-}
-
 // A list's count, and its groups.
 fn put_uplinks(flat: &mut [u8], at: usize, present: bool, list: OptionalUplinks) -> usize
     requires { ⌜ at + 9 + 46 * shown present (list .count) ≤ length (now flat) ⌝ }
@@ -287,17 +266,20 @@ fn put_uplinks(flat: &mut [u8], at: usize, present: bool, list: OptionalUplinks)
     a
 }
 
-// A list's count, and its groups.
+// A list's count, and its groups; two messages have one, so that the list is copied for this call.
 fn put_downlinks(flat: &mut [u8], at: usize, present: bool, list: OptionalDownlinks) -> usize
     requires { ⌜ at + 9 + 56 * shown present (list .count) ≤ length (now flat) ⌝ }
     ensures { λ r. ⌜ Put (now (flat .entry)) at (flatDownlinks present list) (now (flat .exit)) r ⌝ }
 {
-    let a = put_field(flat, at, present, list.count as u64);
-    if present {
-        let groups = list.groups;
-        return put_downlink_groups(flat, a, list.count, groups);
+    let mut place = put_field(flat, at, present, list.count as u64);
+    let n = shown_downlinks(present, list);
+    let mut i: usize = 0;
+    while i < n {
+        let g = list.groups[i];
+        place = put_downlink(flat, place, g);
+        i += 1;
     }
-    a
+    place
 }
 
 fn put_location_demand(flat: &mut [u8], at: usize, o: OptionalLocationDemand) -> usize
@@ -534,15 +516,20 @@ pub(crate) fn put_attach_detach(
 }
 
 // How many groups of a list the flat form shows.
+fn shown_of(present: bool, count: usize) -> usize
+    ensures { λ r. ⌜ (r ≡ shown present count) × (r ≤ 63) ⌝ }
+{
+    if present { at_most_63(count) } else { 0 }
+}
+
 pub(crate) fn shown_uplinks(present: bool, list: OptionalUplinks) -> usize
     ensures { λ r. ⌜ (r ≡ shown present (list .count)) × (r ≤ 63) × (length (list .groups) ≡ 63) ⌝ }
 {
-    if present { at_most_63(list.count) } else { 0 }
+    shown_of(present, list.count)
 }
 
-// How many groups of a list the flat form shows.
 pub(crate) fn shown_downlinks(present: bool, list: OptionalDownlinks) -> usize
     ensures { λ r. ⌜ (r ≡ shown present (list .count)) × (r ≤ 63) × (length (list .groups) ≡ 63) ⌝ }
 {
-    if present { at_most_63(list.count) } else { 0 }
+    shown_of(present, list.count)
 }

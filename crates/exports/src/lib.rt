@@ -24,15 +24,11 @@ use messages::is_good_call;
 use messages::u_location_update_demand::ULocationUpdateDemand;
 
 // Reads a demand in a window that passed question 1 into a buffer.
-fn demand_into(octets: &[u8], first: usize, end: usize, skipping: bool, flat: &mut [u8]) -> u64
-    requires { ⌜ (first ≤ end) × (end ≤ 32768) ⌝ }
-    ensures result { λ r. ⌜ r ≡ readResult demand (called demand skipping (now (octets .entry)) first end) (now (flat .entry)) ⌝ }
-    ensures buffer { λ r. ⌜ now (flat .exit) ≡ readBuffer demand (called demand skipping (now (octets .entry)) first end) (now (flat .entry)) ⌝ }
+fn demand_into(octets: &[u8], c: Cursor, skipping: bool, flat: &mut [u8]) -> u64
+    requires { ⌜ (c .at ≤ c .end) × (c .end ≤ 32768) ⌝ }
+    ensures result { λ r. ⌜ r ≡ readResult demand (called demand skipping (now (octets .entry)) (c .at) (c .end)) (now (flat .entry)) ⌝ }
+    ensures buffer { λ r. ⌜ now (flat .exit) ≡ readBuffer demand (called demand skipping (now (octets .entry)) (c .at) (c .end)) (now (flat .entry)) ⌝ }
 {
-    let c = Cursor {
-        at: first,
-        end: end,
-    };
     let a = ULocationUpdateDemand::from_bitbuf(c, octets, skipping);
     let v = a.verdict;
     let Skipped::Count(n, c1) = v else {
@@ -47,19 +43,15 @@ fn demand_into(octets: &[u8], first: usize, end: usize, skipping: bool, flat: &m
         return WINDOW_TOO_SHORT as u64;
     }
     put_demand(flat, n, own);
-    64 * (c1.at - first) as u64
+    64 * (c1.at - c.at) as u64
 }
 
-// Reads a accept in a window that passed question 1 into a buffer.
-fn accept_into(octets: &[u8], first: usize, end: usize, skipping: bool, flat: &mut [u8]) -> u64
-    requires { ⌜ (first ≤ end) × (end ≤ 32768) ⌝ }
-    ensures result { λ r. ⌜ r ≡ readResult accept (called accept skipping (now (octets .entry)) first end) (now (flat .entry)) ⌝ }
-    ensures buffer { λ r. ⌜ now (flat .exit) ≡ readBuffer accept (called accept skipping (now (octets .entry)) first end) (now (flat .entry)) ⌝ }
+// Reads an accept in a window that passed question 1 into a buffer.
+fn accept_into(octets: &[u8], c: Cursor, skipping: bool, flat: &mut [u8]) -> u64
+    requires { ⌜ (c .at ≤ c .end) × (c .end ≤ 32768) ⌝ }
+    ensures result { λ r. ⌜ r ≡ readResult accept (called accept skipping (now (octets .entry)) (c .at) (c .end)) (now (flat .entry)) ⌝ }
+    ensures buffer { λ r. ⌜ now (flat .exit) ≡ readBuffer accept (called accept skipping (now (octets .entry)) (c .at) (c .end)) (now (flat .entry)) ⌝ }
 {
-    let c = Cursor {
-        at: first,
-        end: end,
-    };
     let a = DLocationUpdateAccept::from_bitbuf(c, octets, skipping);
     let v = a.verdict;
     let Skipped::Count(n, c1) = v else {
@@ -74,25 +66,15 @@ fn accept_into(octets: &[u8], first: usize, end: usize, skipping: bool, flat: &m
         return WINDOW_TOO_SHORT as u64;
     }
     put_accept(flat, n, own);
-    64 * (c1.at - first) as u64
+    64 * (c1.at - c.at) as u64
 }
 
-// Reads a attach/detach in a window that passed question 1 into a buffer.
-fn attach_detach_into(
-    octets: &[u8],
-    first: usize,
-    end: usize,
-    skipping: bool,
-    flat: &mut [u8],
-) -> u64
-    requires { ⌜ (first ≤ end) × (end ≤ 32768) ⌝ }
-    ensures result { λ r. ⌜ r ≡ readResult attachDetach (called attachDetach skipping (now (octets .entry)) first end) (now (flat .entry)) ⌝ }
-    ensures buffer { λ r. ⌜ now (flat .exit) ≡ readBuffer attachDetach (called attachDetach skipping (now (octets .entry)) first end) (now (flat .entry)) ⌝ }
+// Reads an attach/detach in a window that passed question 1 into a buffer.
+fn attach_detach_into(octets: &[u8], c: Cursor, skipping: bool, flat: &mut [u8]) -> u64
+    requires { ⌜ (c .at ≤ c .end) × (c .end ≤ 32768) ⌝ }
+    ensures result { λ r. ⌜ r ≡ readResult attachDetach (called attachDetach skipping (now (octets .entry)) (c .at) (c .end)) (now (flat .entry)) ⌝ }
+    ensures buffer { λ r. ⌜ now (flat .exit) ≡ readBuffer attachDetach (called attachDetach skipping (now (octets .entry)) (c .at) (c .end)) (now (flat .entry)) ⌝ }
 {
-    let c = Cursor {
-        at: first,
-        end: end,
-    };
     let a = DAttachDetachGroupIdentity::from_bitbuf(c, octets, skipping);
     let v = a.verdict;
     let Skipped::Count(n, c1) = v else {
@@ -105,7 +87,7 @@ fn attach_detach_into(
         return WINDOW_TOO_SHORT as u64;
     }
     put_attach_detach(flat, n, own);
-    64 * (c1.at - first) as u64
+    64 * (c1.at - c.at) as u64
 }
 
 // A reading call into a flat buffer: 64 × the bits consumed, plus the refusal's number.
@@ -125,13 +107,14 @@ pub extern "C" fn tetra_mm_read(
     let e = end as usize;
     if is_good_call(octets.len(), f, e, message, wanted) {
         let skipping = wanted == SKIPPING;
+        let c = Cursor { at: f, end: e };
         if message == DEMAND {
-            return demand_into(octets, f, e, skipping, flat);
+            return demand_into(octets, c, skipping, flat);
         }
         if message == ACCEPT {
-            return accept_into(octets, f, e, skipping, flat);
+            return accept_into(octets, c, skipping, flat);
         }
-        return attach_detach_into(octets, f, e, skipping, flat);
+        return attach_detach_into(octets, c, skipping, flat);
     }
     BAD_CALL as u64
 }

@@ -21,7 +21,7 @@ use Rattle.elements.specs.declared.typed_pdu_fields.OptionalType3.{OptionalType
 use Rattle.elements.specs.declared.typed_pdu_fields.OptionalType4.{OptionalType4}
 use Rattle.elements.specs.declared.group_identity_location_accept.OptionalLocationAccept.{OptionalLocationAccept}
 use Rattle.messages.specs.Head.{pduTypeWidth, dLocationUpdateAccept, pduType, behindObit, layoutOptions, anyOf, anyPresent, updateTypeWidth, ssiWidth, extensionWidth}
-use Rattle.messages.specs.Questions.{Asked, lengthFits}
+use Rattle.messages.specs.Questions.{Asked, allOf, lengthFits}
 use Rattle.messages.specs.declared.d_location_update_accept.AcceptOptions.{AcceptOptions}
 use Rattle.messages.specs.declared.d_location_update_accept.AcceptHead.{AcceptHead}
 use Rattle.messages.specs.declared.d_location_update_accept.DLocationUpdateAccept.{DLocationUpdateAccept}
@@ -60,10 +60,13 @@ noAcceptOptions = acceptOptionsOf none none none none none
 abbrev pub acceptOptionsIf : Bool → Reader AcceptOptions
 acceptOptionsIf = behindObit acceptOptions noAcceptOptions
 
+abbrev pub acceptHeadOf : ℕ → ℕ → AcceptOptions → AcceptHead
+acceptHeadOf u o t = record { «location_update_accept_type» = u; obit = o; options = t }
+
 unfoldable pub acceptHead : Reader AcceptHead
 acceptHead =
     pduType dLocationUpdateAccept >>= λ z. field updateTypeWidth >>= λ u. field flagWidth >>= λ o. acceptOptionsIf (eqb o 1) >>= λ t.
-    got (record { «location_update_accept_type» = u; obit = o; options = t })
+    got (acceptHeadOf u o t)
 
 -- the walk's layout
 unfoldable pub acceptLayout : Reader Bool
@@ -133,17 +136,22 @@ acceptBits r =
     digits pduTypeWidth dLocationUpdateAccept ++ (digits updateTypeWidth (r .«location_update_accept_type»)
     ++ announced (acceptMore r) (acceptOptionsBits r (tableBits identifierOf contentBits acceptTable (acceptSlots r))))
 
+-- the parts of question 8
+abbrev pub acceptParts : DLocationUpdateAccept → List Bool
+acceptParts r =
+    inWidth updateTypeWidth (r .«location_update_accept_type») ∷ optionAll (inWidth ssiWidth) (inU64 (r .ssi))
+    ∷ optionAll (inWidth extensionWidth) (inU64 (r .«address_extension»)) ∷ optionAll (inWidth subscriberClassWidth) (inU64 (r .«subscriber_class»))
+    ∷ optionAll savingFits (savingIn r) ∷ optionAll (inWidth scchWidth) (inU64 (r .«scch_information_and_distribution_on_18th_frame»))
+    ∷ optionAll type4Fits (type4Held (r .«new_registered_area»)) ∷ optionAll type3Fits (type3Held (r .«security_downlink»))
+    ∷ optionAll locationAcceptFits (acceptLocationIn r) ∷ optionAll type3Fits (type3Held (r .«default_group_attachment_lifetime»))
+    ∷ optionAll type3Fits (type3Held (r .«authentication_downlink»))
+    ∷ optionAll type4Fits (type4Held (r .«group_identity_security_related_information»)) ∷ optionAll type3Fits (type3Held (r .«cell_type_control»))
+    ∷ optionAll type3Fits (type3Held (r .proprietary)) ∷ []
+
 -- THE QUESTIONS
 unfoldable pub acceptAsked : DLocationUpdateAccept → Asked
 acceptAsked r = record {
-  fits =
-      inWidth updateTypeWidth (r .«location_update_accept_type») && (optionAll (inWidth ssiWidth) (inU64 (r .ssi))
-      && (optionAll (inWidth extensionWidth) (inU64 (r .«address_extension»)) && (optionAll (inWidth subscriberClassWidth) (inU64 (r .«subscriber_class»))
-      && (optionAll savingFits (savingIn r) && (optionAll (inWidth scchWidth) (inU64 (r .«scch_information_and_distribution_on_18th_frame»))
-      && (optionAll type4Fits (type4Held (r .«new_registered_area»)) && (optionAll type3Fits (type3Held (r .«security_downlink»))
-      && (optionAll locationAcceptFits (acceptLocationIn r) && (optionAll type3Fits (type3Held (r .«default_group_attachment_lifetime»))
-      && (optionAll type3Fits (type3Held (r .«authentication_downlink»)) && (optionAll type4Fits (type4Held (r .«group_identity_security_related_information»))
-      && (optionAll type3Fits (type3Held (r .«cell_type_control»)) && optionAll type3Fits (type3Held (r .proprietary))))))))))))));
+  fits = allOf (acceptParts r);
   ciphered = true;
   attached = optionAll (λ d. listOne downlinks (d .«group_identity_downlink»)) (acceptLocationIn r);
   formed = optionAll (λ d. listListed downlinks (d .«group_identity_downlink»)) (acceptLocationIn r);

@@ -1,32 +1,31 @@
 -- Laws of D-LOCATION UPDATE ACCEPT.
 use native.Mathlib.Omega.{arith}
-use mathlib.Core.Path.{_≡_, refl, ap, _∙_}
+use mathlib.Core.Path.{_≡_, refl, ap}
 use mathlib.Core.Bool.{Bool, true, false, cond, _&&_}
 use mathlib.Core.Option.{Option, none, some}
 use mathlib.Core.List.{List, [], _∷_, _++_, append-assoc}
-use lib.ListN.{getD}
 use lib.Dec.{eqb}
 use Rattle.bits.specs.Bits.{Bits, bit, digits}
 use Rattle.bits.specs.Reader.{got, field, optional, Local}
 use Rattle.bits.specs.ReaderLaws.{split-then, local·rules, follows·rules, Follows, field-passes}
-use Rattle.elements.specs.Numbers.{held, isPresent, valueOr, optionAll, optionMap, inWidth, inU64, flagWidth, type2, announced}
+use Rattle.elements.specs.Numbers.{held, isPresent, valueOr, optionAll, optionMap, inU64, flagWidth, type2, announced}
 use Rattle.elements.specs.NumbersLaws.{both, number-back, one-bit, type2-back, type2-number-back, held-option, same-held, same-map, same-self, same-normal, sameU64, sameU64-self}
 use Rattle.elements.specs.EnergySaving.{energySaving, savingBits, savingFits, aliveHasNone, othersHaveBoth, savingNormal, noSaving, savingOption}
 use Rattle.elements.specs.EnergySavingLaws.{saving-local, saving-passes, saving-back, saving-same, saving-normal-same, saving-own}
-use Rattle.elements.specs.Generics.{noType3, noType4, type3Fits, type4Fits}
+use Rattle.elements.specs.Generics.{noType3, noType4}
 use Rattle.elements.specs.Table.{Counted, counted, isListed}
 use Rattle.elements.specs.TableBack.{distinct, normalSlots}
-use Rattle.elements.specs.Locations.{noLocationAccept, locationAcceptFits, locationAcceptNormal, SameLocationAccept}
+use Rattle.elements.specs.Locations.{noLocationAccept, locationAcceptNormal, SameLocationAccept}
 use Rattle.elements.specs.Kinds.{Element, identifierOf, content, contentBits, elementNormal, type3Held, type3Option, type4Held, type4Option, locationAcceptOption}
 use Rattle.elements.specs.declared.energy_saving_information.EnergySavingInformation.{EnergySavingInformation}
 use Rattle.elements.specs.declared.group_identity_location_accept.GroupIdentityLocationAccept.{GroupIdentityLocationAccept}
 use Rattle.messages.specs.Head.{pduTypeWidth, dLocationUpdateAccept, pduType, updateTypeWidth, passIf, passType2, layoutOptions, anyOf, anyPresent, ssiWidth, extensionWidth}
 use Rattle.messages.specs.HeadLaws.{type-local, type-passes, type-back, layout-options-local, type2-local, type2-follows, end-follows, behind-local, behind-follows, announced-back, both-false, none-held}
-use Rattle.messages.specs.QuestionsLaws.{six}
+use Rattle.messages.specs.QuestionsLaws.{EachOf, each-of}
 use Rattle.messages.specs.Format.{message}
 use Rattle.messages.specs.FormatLaws.{format-back, format-own}
 use Rattle.messages.specs.SlotsLaws.{slotsNormal, SlotsRead, SlotsOwn, slot-own, type3-slot, type4-slot, location-accept-slot, type3-own, type4-own, location-accept-own}
-use Rattle.messages.specs.Accept.{subscriberClassWidth, energySavingWidth, scchWidth, acceptOptionsOf, acceptOptions, noAcceptOptions, acceptOptionsIf, acceptHead, acceptLayout, acceptTable, acceptOf, savingIn, acceptLocationIn, acceptSlots, acceptMore, acceptOptionsBits, acceptBits, acceptAsked, acceptNormal, SameAccept}
+use Rattle.messages.specs.Accept.{acceptParts, acceptHeadOf, subscriberClassWidth, energySavingWidth, scchWidth, acceptOptionsOf, acceptOptions, noAcceptOptions, acceptOptionsIf, acceptHead, acceptLayout, acceptTable, acceptOf, savingIn, acceptLocationIn, acceptSlots, acceptMore, acceptOptionsBits, acceptBits, acceptAsked, acceptNormal, SameAccept}
 use Rattle.messages.specs.Calls.{ofAccept, acceptFormat}
 use Rattle.messages.specs.declared.d_location_update_accept.AcceptOptions.{AcceptOptions}
 use Rattle.messages.specs.declared.d_location_update_accept.AcceptHead.{AcceptHead}
@@ -59,52 +58,17 @@ accept-follows = search (follows·rules, type-passes, options-follow) depth 20
 -- ## what is asked
 
 -- QUESTION 8, part by part
-pub record AcceptFits (r : DLocationUpdateAccept) : Type 0 where
-  pub accept-type : inWidth updateTypeWidth (r .«location_update_accept_type») ≡ true
-  pub ssi : optionAll (inWidth ssiWidth) (inU64 (r .ssi)) ≡ true
-  pub extension : optionAll (inWidth extensionWidth) (inU64 (r .«address_extension»)) ≡ true
-  pub subscriber-class : optionAll (inWidth subscriberClassWidth) (inU64 (r .«subscriber_class»)) ≡ true
-  pub saving : optionAll savingFits (savingIn r) ≡ true
-  pub scch : optionAll (inWidth scchWidth) (inU64 (r .«scch_information_and_distribution_on_18th_frame»)) ≡ true
-  pub registered-area : optionAll type4Fits (type4Held (r .«new_registered_area»)) ≡ true
-  pub security : optionAll type3Fits (type3Held (r .«security_downlink»)) ≡ true
-  pub location : optionAll locationAcceptFits (acceptLocationIn r) ≡ true
-  pub lifetime : optionAll type3Fits (type3Held (r .«default_group_attachment_lifetime»)) ≡ true
-  pub authentication : optionAll type3Fits (type3Held (r .«authentication_downlink»)) ≡ true
-  pub group-security : optionAll type4Fits (type4Held (r .«group_identity_security_related_information»)) ≡ true
-  pub cell-type : optionAll type3Fits (type3Held (r .«cell_type_control»)) ≡ true
-  pub proprietary : optionAll type3Fits (type3Held (r .proprietary)) ≡ true
-
-pub accept-fits : (r : DLocationUpdateAccept) → acceptAsked r .fits ≡ true → AcceptFits r
+pub accept-fits : (r : DLocationUpdateAccept) → acceptAsked r .fits ≡ true → EachOf (acceptParts r)
 unfolding acceptAsked
-accept-fits r f =
-    let x = six _ _ _ _ _ _ _ f in
-    let y = six _ _ _ _ _ _ _ (x .others) in
-    let z = both _ _ (y .others) in
-    record {
-      accept-type = x .first;
-      ssi = x .second;
-      extension = x .third;
-      subscriber-class = x .fourth;
-      saving = x .fifth;
-      scch = x .sixth;
-      registered-area = y .first;
-      security = y .second;
-      location = y .third;
-      lifetime = y .fourth;
-      authentication = y .fifth;
-      group-security = y .sixth;
-      cell-type = z .0;
-      proprietary = z .1;
-    }
+accept-fits r = each-of (acceptParts r)
 
 -- questions 8, 12 and 13 of the energy saving information
 abbrev savingWell : EnergySavingInformation → Bool
 savingWell e = savingFits e && (aliveHasNone e && othersHaveBoth e)
 
-saving-well : (r : DLocationUpdateAccept) → AcceptFits r → acceptAsked r .alive ≡ true → acceptAsked r .saving ≡ true → optionAll savingWell (savingIn r) ≡ true
+saving-well : (r : DLocationUpdateAccept) → EachOf (acceptParts r) → acceptAsked r .alive ≡ true → acceptAsked r .saving ≡ true → optionAll savingWell (savingIn r) ≡ true
 unfolding acceptAsked
-saving-well r x = go (savingIn r) (x .saving)
+saving-well r x = go (savingIn r) (x 4)
   where
     go : (o : Option EnergySavingInformation) → optionAll savingFits o ≡ true → optionAll aliveHasNone o ≡ true → optionAll othersHaveBoth o ≡ true
         → optionAll savingWell o ≡ true
@@ -129,14 +93,14 @@ module _ (r : DLocationUpdateAccept) where
   options-append : (xs rest : Bits) → acceptOptionsBits r xs ++ rest ≡ acceptOptionsBits r (xs ++ rest)
   options-append xs rest = simp append-assoc
 
-  options-back : AcceptFits r → optionAll savingWell (savingIn r) ≡ true → (rest : Bits) → acceptOptions (acceptOptionsBits r rest) ≡ got (optionsIn r) rest
+  options-back : EachOf (acceptParts r) → optionAll savingWell (savingIn r) ≡ true → (rest : Bits) → acceptOptions (acceptOptionsBits r rest) ≡ got (optionsIn r) rest
   unfolding acceptOptions
   options-back x w rest =
-      rw (type2-number-back ssiWidth (inU64 (r .ssi)) (x .ssi) _)
-      (rw (type2-number-back extensionWidth (inU64 (r .«address_extension»)) (x .extension) _)
-      (rw (type2-number-back subscriberClassWidth (inU64 (r .«subscriber_class»)) (x .subscriber-class) _)
+      rw (type2-number-back ssiWidth (inU64 (r .ssi)) (x 1) _)
+      (rw (type2-number-back extensionWidth (inU64 (r .«address_extension»)) (x 2) _)
+      (rw (type2-number-back subscriberClassWidth (inU64 (r .«subscriber_class»)) (x 3) _)
       (rw (type2-back energySaving savingBits savingNormal savingWell well-back (savingIn r) w _)
-      (rw (type2-number-back scchWidth (inU64 (r .«scch_information_and_distribution_on_18th_frame»)) (x .scch) rest)))))
+      (rw (type2-number-back scchWidth (inU64 (r .«scch_information_and_distribution_on_18th_frame»)) (x 5) rest)))))
 
   options-absent : acceptMore r ≡ false → noAcceptOptions ≡ optionsIn r
   unfolding acceptMore
@@ -148,9 +112,9 @@ module _ (r : DLocationUpdateAccept) where
 
   -- the head that is read where the O-bit is o
   abbrev headOf : Bool → AcceptHead
-  headOf o = record { «location_update_accept_type» = r .«location_update_accept_type»; obit = bit o; options = optionsIn r }
+  headOf o = acceptHeadOf (r .«location_update_accept_type») (bit o) (optionsIn r)
 
-  head-back : AcceptFits r → optionAll savingWell (savingIn r) ≡ true → (xs rest : Bits)
+  head-back : EachOf (acceptParts r) → optionAll savingWell (savingIn r) ≡ true → (xs rest : Bits)
       → acceptHead ((digits pduTypeWidth dLocationUpdateAccept ++ (digits updateTypeWidth (r .«location_update_accept_type»)
       ++ announced (acceptMore r) (acceptOptionsBits r xs))) ++ rest)
       ≡ got (headOf (acceptMore r)) (cond (acceptMore r) xs [] ++ rest)
@@ -159,7 +123,7 @@ module _ (r : DLocationUpdateAccept) where
       let u = r .«location_update_accept_type» in
       rw (append-assoc (digits pduTypeWidth dLocationUpdateAccept) _ rest, append-assoc (digits updateTypeWidth u) _ rest)
       (rw (type-back dLocationUpdateAccept refl _)
-      (rw (number-back updateTypeWidth u (x .accept-type) _)
+      (rw (number-back updateTypeWidth u (x 0) _)
       (announced-back acceptOptions noAcceptOptions (acceptOptionsBits r) (optionsIn r) options-append (options-back x w) (acceptMore r) options-absent _ xs rest)))
 
   -- with the slots it makes the normal form
@@ -167,14 +131,14 @@ module _ (r : DLocationUpdateAccept) where
   unfolding normalSlots acceptNormal
   made o =
       rw (
-        type4-slot 2 (type4Held (r .«new_registered_area»)),
-        type3-slot 3 (type3Held (r .«security_downlink»)),
-        location-accept-slot 5 (acceptLocationIn r),
-        type3-slot 1 (type3Held (r .«default_group_attachment_lifetime»)),
-        type3-slot 10 (type3Held (r .«authentication_downlink»)),
-        type4-slot 12 (type4Held (r .«group_identity_security_related_information»)),
-        type3-slot 13 (type3Held (r .«cell_type_control»)),
-        type3-slot 15 (type3Held (r .proprietary)),
+        type4-slot 2 .at (type4Held (r .«new_registered_area»)),
+        type3-slot 3 .at (type3Held (r .«security_downlink»)),
+        location-accept-slot 5 .at (acceptLocationIn r),
+        type3-slot 1 .at (type3Held (r .«default_group_attachment_lifetime»)),
+        type3-slot 10 .at (type3Held (r .«authentication_downlink»)),
+        type4-slot 12 .at (type4Held (r .«group_identity_security_related_information»)),
+        type3-slot 13 .at (type3Held (r .«cell_type_control»)),
+        type3-slot 15 .at (type3Held (r .proprietary)),
       )
 
   pub accept-back : acceptAsked r .fits ≡ true → acceptAsked r .alive ≡ true → acceptAsked r .saving ≡ true → SlotsRead acceptTable (acceptSlots r) → (rest : Bits)
@@ -184,8 +148,7 @@ module _ (r : DLocationUpdateAccept) where
       let o : Bool = acceptMore r in
       let x = accept-fits r f in
       format-back identifierOf content contentBits elementNormal acceptFormat refl (acceptSlots r) backs o slots-absent _ rest
-      (head-back x (saving-well r x a s) _ rest) (one-bit o)
-      ∙ ap (λ (n : DLocationUpdateAccept). got (counted 0 (ofAccept n)) rest) (made o)
+      (head-back x (saving-well r x a s) _ rest) (one-bit o) (ap ofAccept (made o))
 
 -- ## the normal form
 
@@ -271,7 +234,7 @@ head-own bs {h} e =
     split-then (field updateTypeWidth b₁) _ q₁ (λ u b₂ p₂ q₂.
     split-then (field flagWidth b₂) _ q₂ (λ o b₃ p₃ q₃.
     split-then (acceptOptionsIf (eqb o 1) b₃) _ q₃ (λ t b₄ p₄ q₄.
-    let made : _≡_ {A = AcceptHead} (record { «location_update_accept_type» = u; obit = o; options = t }) h = cc in
+    let made : acceptHeadOf u o t ≡ h = cc in
     rw (← made) (options-own (eqb o 1) b₃ p₄)))))
 
 made-own : (h : AcceptHead) → optionsNormal (h .options) ≡ h .options → (vs : List (Option Element)) → slotsNormal acceptTable vs ≡ vs
@@ -284,14 +247,14 @@ made-own h x vs e = λ i. record {
   «subscriber_class» = x i .«subscriber_class»;
   «energy_saving_information» = x i .«energy_saving_information»;
   «scch_information_and_distribution_on_18th_frame» = x i .«scch_information_and_distribution_on_18th_frame»;
-  «new_registered_area» = type4-own 2 (getD vs 0 none) (slot-own acceptTable vs e 0 (omega arith)) i;
-  «security_downlink» = type3-own 3 (getD vs 1 none) (slot-own acceptTable vs e 1 (omega arith)) i;
-  «group_identity_location_accept» = location-accept-own 5 (getD vs 2 none) (slot-own acceptTable vs e 2 (omega arith)) i;
-  «default_group_attachment_lifetime» = type3-own 1 (getD vs 3 none) (slot-own acceptTable vs e 3 (omega arith)) i;
-  «authentication_downlink» = type3-own 10 (getD vs 4 none) (slot-own acceptTable vs e 4 (omega arith)) i;
-  «group_identity_security_related_information» = type4-own 12 (getD vs 5 none) (slot-own acceptTable vs e 5 (omega arith)) i;
-  «cell_type_control» = type3-own 13 (getD vs 6 none) (slot-own acceptTable vs e 6 (omega arith)) i;
-  proprietary = type3-own 15 (getD vs 7 none) (slot-own acceptTable vs e 7 (omega arith)) i;
+  «new_registered_area» = slot-own acceptTable vs e 0 (omega arith) (type4-own 2) i;
+  «security_downlink» = slot-own acceptTable vs e 1 (omega arith) (type3-own 3) i;
+  «group_identity_location_accept» = slot-own acceptTable vs e 2 (omega arith) (location-accept-own 5) i;
+  «default_group_attachment_lifetime» = slot-own acceptTable vs e 3 (omega arith) (type3-own 1) i;
+  «authentication_downlink» = slot-own acceptTable vs e 4 (omega arith) (type3-own 10) i;
+  «group_identity_security_related_information» = slot-own acceptTable vs e 5 (omega arith) (type4-own 12) i;
+  «cell_type_control» = slot-own acceptTable vs e 6 (omega arith) (type3-own 13) i;
+  proprietary = slot-own acceptTable vs e 7 (omega arith) (type3-own 15) i;
 }
 
 pub accept-own : SlotsOwn acceptTable → (b : Bool) (bs : Bits) {x : Counted Record} {rest : Bits}

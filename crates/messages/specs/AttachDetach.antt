@@ -1,7 +1,7 @@
 -- D-ATTACH/DETACH GROUP IDENTITY (EN 300 392-2, clause 16.9.2.1): how it is read and written, and what is asked of its record.
 use Prim.Native.Nat.{ℕ}
 use mathlib.Core.Path.{_≡_}
-use mathlib.Core.Bool.{Bool, true, not, _&&_}
+use mathlib.Core.Bool.{Bool, true, not}
 use mathlib.Core.Option.{Option, none}
 use mathlib.Core.List.{List, [], _∷_, _++_}
 use lib.ListN.{getD}
@@ -17,21 +17,24 @@ use Rattle.elements.specs.declared.typed_pdu_fields.OptionalType3.{OptionalType
 use Rattle.elements.specs.declared.typed_pdu_fields.OptionalType4.{OptionalType4}
 use Rattle.elements.specs.declared.group_identity_downlink.OptionalDownlinks.{OptionalDownlinks}
 use Rattle.messages.specs.Head.{pduTypeWidth, dAttachDetachGroupIdentity, pduType, anyPresent}
-use Rattle.messages.specs.Questions.{Asked, lengthFits}
+use Rattle.messages.specs.Questions.{Asked, allOf, lengthFits}
 use Rattle.messages.specs.declared.d_attach_detach_group_identity.AttachDetachHead.{AttachDetachHead}
 use Rattle.messages.specs.declared.d_attach_detach_group_identity.DAttachDetachGroupIdentity.{DAttachDetachGroupIdentity}
 
 -- ## reading
 
+abbrev pub attachDetachHeadOf : ℕ → ℕ → ℕ → ℕ → AttachDetachHead
+attachDetachHeadOf r a m o = record {
+  «group_identity_report» = r;
+  «group_identity_acknowledgement_request» = a;
+  «group_identity_attach_detach_mode» = m;
+  obit = o;
+}
+
 unfoldable pub attachDetachHead : Reader AttachDetachHead
 attachDetachHead =
     pduType dAttachDetachGroupIdentity >>= λ z. field flagWidth >>= λ r. field flagWidth >>= λ a. field flagWidth >>= λ m. field flagWidth >>= λ o.
-    got (record {
-      «group_identity_report» = r;
-      «group_identity_acknowledgement_request» = a;
-      «group_identity_attach_detach_mode» = m;
-      obit = o;
-    })
+    got (attachDetachHeadOf r a m o)
 
 -- the walk's layout: no type 2 elements
 unfoldable pub attachDetachLayout : Reader Bool
@@ -70,14 +73,18 @@ attachDetachBits r =
     ++ (digits flagWidth (r .«group_identity_acknowledgement_request») ++ (digits flagWidth (r .«group_identity_attach_detach_mode»)
     ++ announced (anyPresent (attachDetachSlots r)) (tableBits identifierOf contentBits attachDetachTable (attachDetachSlots r)))))
 
+-- the parts of question 8
+abbrev pub attachDetachParts : DAttachDetachGroupIdentity → List Bool
+attachDetachParts r =
+    inWidth flagWidth (r .«group_identity_report») ∷ inWidth flagWidth (r .«group_identity_acknowledgement_request»)
+    ∷ inWidth flagWidth (r .«group_identity_attach_detach_mode») ∷ optionAll type3Fits (type3Held (r .proprietary))
+    ∷ optionAll type3Fits (type3Held (r .«group_report_response»)) ∷ listFits downlinks (r .«group_identity_downlink»)
+    ∷ optionAll type4Fits (type4Held (r .«group_identity_security_related_information»)) ∷ []
+
 -- THE QUESTIONS
 unfoldable pub attachDetachAsked : DAttachDetachGroupIdentity → Asked
 attachDetachAsked r = record {
-  fits =
-      inWidth flagWidth (r .«group_identity_report») && (inWidth flagWidth (r .«group_identity_acknowledgement_request»)
-      && (inWidth flagWidth (r .«group_identity_attach_detach_mode») && (optionAll type3Fits (type3Held (r .proprietary))
-      && (optionAll type3Fits (type3Held (r .«group_report_response»)) && (listFits downlinks (r .«group_identity_downlink»)
-      && optionAll type4Fits (type4Held (r .«group_identity_security_related_information»)))))));
+  fits = allOf (attachDetachParts r);
   ciphered = true;
   attached = listOne downlinks (r .«group_identity_downlink»);
   formed = listListed downlinks (r .«group_identity_downlink»);

@@ -1,30 +1,30 @@
 -- Laws of D-ATTACH/DETACH GROUP IDENTITY.
 use native.Mathlib.Omega.{arith}
-use mathlib.Core.Path.{_≡_, refl, ap, _∙_}
+use mathlib.Core.Path.{_≡_, refl, ap}
 use mathlib.Core.Bool.{Bool, true, false}
-use mathlib.Core.Option.{Option, none}
+use mathlib.Core.Option.{Option}
 use mathlib.Core.List.{List, _++_, append-assoc}
-use lib.ListN.{length, getD}
+use lib.ListN.{length}
 use lib.Dec.{eqb}
 use Rattle.bits.specs.Bits.{Bits, bit, digits}
 use Rattle.bits.specs.BitsLaws.{bit-lt}
 use Rattle.bits.specs.Reader.{got, Local}
 use Rattle.bits.specs.ReaderLaws.{local·rules, follows·rules, Follows, field-back}
-use Rattle.elements.specs.Numbers.{optionAll, inWidth, flagWidth}
+use Rattle.elements.specs.Numbers.{flagWidth}
 use Rattle.elements.specs.NumbersLaws.{number-back, one-bit, same-held, same-self}
-use Rattle.elements.specs.Generics.{noType3, noType4, type3Fits, type4Fits}
+use Rattle.elements.specs.Generics.{noType3, noType4}
 use Rattle.elements.specs.Table.{Counted, counted, isListed}
 use Rattle.elements.specs.TableBack.{distinct, normalSlots}
-use Rattle.elements.specs.Lists.{entriesMost, downlinks, listFits}
+use Rattle.elements.specs.Lists.{entriesMost}
 use Rattle.elements.specs.ListsLaws.{downlinks-sound, list-same, list-normal-same}
 use Rattle.elements.specs.Kinds.{Element, identifierOf, content, contentBits, elementNormal, type3Held, type3Option, type4Held, type4Option}
 use Rattle.messages.specs.Head.{pduTypeWidth, dAttachDetachGroupIdentity, anyPresent}
 use Rattle.messages.specs.HeadLaws.{type-local, type-passes, type-back}
-use Rattle.messages.specs.QuestionsLaws.{six}
+use Rattle.messages.specs.QuestionsLaws.{EachOf, each-of}
 use Rattle.messages.specs.Format.{message}
 use Rattle.messages.specs.FormatLaws.{format-back, format-own}
 use Rattle.messages.specs.SlotsLaws.{slotsNormal, SlotsRead, SlotsOwn, slot-own, type3-slot, type4-slot, downlinks-slot, type3-own, type4-own, downlinks-own}
-use Rattle.messages.specs.AttachDetach.{attachDetachHead, attachDetachLayout, attachDetachTable, attachDetachOf, attachDetachSlots, attachDetachBits, attachDetachAsked, attachDetachNormal, SameAttachDetach}
+use Rattle.messages.specs.AttachDetach.{attachDetachParts, attachDetachHeadOf, attachDetachHead, attachDetachLayout, attachDetachTable, attachDetachOf, attachDetachSlots, attachDetachBits, attachDetachAsked, attachDetachNormal, SameAttachDetach}
 use Rattle.messages.specs.Calls.{ofAttachDetach, attachDetachFormat}
 use Rattle.messages.specs.declared.d_attach_detach_group_identity.AttachDetachHead.{AttachDetachHead}
 use Rattle.messages.specs.declared.d_attach_detach_group_identity.DAttachDetachGroupIdentity.{DAttachDetachGroupIdentity}
@@ -47,40 +47,17 @@ attach-detach-follows = search (follows·rules, type-passes) depth 20
 -- ## reading back
 
 -- QUESTION 8, part by part
-pub record AttachDetachFits (r : DAttachDetachGroupIdentity) : Type 0 where
-  pub report : inWidth flagWidth (r .«group_identity_report») ≡ true
-  pub acknowledgement : inWidth flagWidth (r .«group_identity_acknowledgement_request») ≡ true
-  pub mode : inWidth flagWidth (r .«group_identity_attach_detach_mode») ≡ true
-  pub proprietary : optionAll type3Fits (type3Held (r .proprietary)) ≡ true
-  pub report-response : optionAll type3Fits (type3Held (r .«group_report_response»)) ≡ true
-  pub list : listFits downlinks (r .«group_identity_downlink») ≡ true
-  pub group-security : optionAll type4Fits (type4Held (r .«group_identity_security_related_information»)) ≡ true
-
-pub attach-detach-fits : (r : DAttachDetachGroupIdentity) → attachDetachAsked r .fits ≡ true → AttachDetachFits r
+pub attach-detach-fits : (r : DAttachDetachGroupIdentity) → attachDetachAsked r .fits ≡ true → EachOf (attachDetachParts r)
 unfolding attachDetachAsked
-attach-detach-fits r f =
-    let x = six _ _ _ _ _ _ _ f in
-    record {
-      report = x .first;
-      acknowledgement = x .second;
-      mode = x .third;
-      proprietary = x .fourth;
-      report-response = x .fifth;
-      list = x .sixth;
-      group-security = x .others;
-    }
+attach-detach-fits r = each-of (attachDetachParts r)
 
 module _ (r : DAttachDetachGroupIdentity) where
   -- the head that is read where the O-bit is o
   abbrev headOf : Bool → AttachDetachHead
-  headOf o = record {
-    «group_identity_report» = r .«group_identity_report»;
-    «group_identity_acknowledgement_request» = r .«group_identity_acknowledgement_request»;
-    «group_identity_attach_detach_mode» = r .«group_identity_attach_detach_mode»;
-    obit = bit o;
-  }
+  headOf o =
+      attachDetachHeadOf (r .«group_identity_report») (r .«group_identity_acknowledgement_request») (r .«group_identity_attach_detach_mode») (bit o)
 
-  head-back : AttachDetachFits r → (o : Bool) (rest : Bits)
+  head-back : EachOf (attachDetachParts r) → (o : Bool) (rest : Bits)
       → attachDetachHead (digits pduTypeWidth dAttachDetachGroupIdentity ++ (digits flagWidth (r .«group_identity_report»)
       ++ (digits flagWidth (r .«group_identity_acknowledgement_request») ++ (digits flagWidth (r .«group_identity_attach_detach_mode»)
       ++ (digits flagWidth (bit o) ++ rest)))))
@@ -88,9 +65,9 @@ module _ (r : DAttachDetachGroupIdentity) where
   unfolding attachDetachHead
   head-back x o rest =
       rw (type-back dAttachDetachGroupIdentity refl _)
-      (rw (number-back flagWidth (r .«group_identity_report») (x .report) _)
-      (rw (number-back flagWidth (r .«group_identity_acknowledgement_request») (x .acknowledgement) _)
-      (rw (number-back flagWidth (r .«group_identity_attach_detach_mode») (x .mode) _)
+      (rw (number-back flagWidth (r .«group_identity_report») (x 0) _)
+      (rw (number-back flagWidth (r .«group_identity_acknowledgement_request») (x 1) _)
+      (rw (number-back flagWidth (r .«group_identity_attach_detach_mode») (x 2) _)
       (rw (field-back flagWidth (bit o) rest (bit-lt o))))))
 
   -- with the slots it makes the normal form
@@ -98,10 +75,10 @@ module _ (r : DAttachDetachGroupIdentity) where
   unfolding normalSlots attachDetachNormal
   made o =
       rw (
-        type3-slot 15 (type3Held (r .proprietary)),
-        type3-slot 4 (type3Held (r .«group_report_response»)),
+        type3-slot 15 .at (type3Held (r .proprietary)),
+        type3-slot 4 .at (type3Held (r .«group_report_response»)),
         downlinks-slot 7 (r .«group_identity_downlink»),
-        type4-slot 12 (type4Held (r .«group_identity_security_related_information»)),
+        type4-slot 12 .at (type4Held (r .«group_identity_security_related_information»)),
       )
 
   pub attach-detach-back : attachDetachAsked r .fits ≡ true → SlotsRead attachDetachTable (attachDetachSlots r) → (rest : Bits)
@@ -111,8 +88,7 @@ module _ (r : DAttachDetachGroupIdentity) where
       let o : Bool = anyPresent (attachDetachSlots r) in
       simp append-assoc
       (format-back identifierOf content contentBits elementNormal attachDetachFormat refl (attachDetachSlots r) backs o (λ e. e) _ rest
-      (head-back (attach-detach-fits r f) o _) (one-bit o)
-      ∙ ap (λ (n : DAttachDetachGroupIdentity). got (counted 0 (ofAttachDetach n)) rest) (made o))
+      (head-back (attach-detach-fits r f) o _) (one-bit o) (ap ofAttachDetach (made o)))
 
 -- ## the normal form
 
@@ -137,7 +113,7 @@ attach-detach-normal-same r f full = record {
   mode = refl;
   proprietary = same-self noType3 (r .proprietary .present) (r .proprietary .value);
   report-response = same-self noType3 (r .«group_report_response» .present) (r .«group_report_response» .value);
-  list = list-normal-same downlinks-sound (r .«group_identity_downlink») (attach-detach-fits r f .list) full;
+  list = list-normal-same downlinks-sound (r .«group_identity_downlink») (attach-detach-fits r f 5) full;
   group-security =
       same-self noType4 (r .«group_identity_security_related_information» .present) (r .«group_identity_security_related_information» .value);
 }
@@ -149,10 +125,10 @@ made-own h vs e = λ i. record {
   «group_identity_report» = h .«group_identity_report»;
   «group_identity_acknowledgement_request» = h .«group_identity_acknowledgement_request»;
   «group_identity_attach_detach_mode» = h .«group_identity_attach_detach_mode»;
-  proprietary = type3-own 15 (getD vs 0 none) (slot-own attachDetachTable vs e 0 (omega arith)) i;
-  «group_report_response» = type3-own 4 (getD vs 1 none) (slot-own attachDetachTable vs e 1 (omega arith)) i;
-  «group_identity_downlink» = downlinks-own 7 (getD vs 2 none) (slot-own attachDetachTable vs e 2 (omega arith)) i;
-  «group_identity_security_related_information» = type4-own 12 (getD vs 3 none) (slot-own attachDetachTable vs e 3 (omega arith)) i;
+  proprietary = slot-own attachDetachTable vs e 0 (omega arith) (type3-own 15) i;
+  «group_report_response» = slot-own attachDetachTable vs e 1 (omega arith) (type3-own 4) i;
+  «group_identity_downlink» = slot-own attachDetachTable vs e 2 (omega arith) (downlinks-own 7) i;
+  «group_identity_security_related_information» = slot-own attachDetachTable vs e 3 (omega arith) (type4-own 12) i;
 }
 
 -- a record that was read is its own normal form

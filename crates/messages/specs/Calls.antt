@@ -1,7 +1,7 @@
 -- A reading call and a writing call over octets and a window (document 01, 'A reading call', 'A writing call').
 use Prim.Native.Nat.{ℕ, zero, suc, _+_, _-_, _*_, _/_}
 use mathlib.Core.Bool.{Bool, cond, _&&_, _||_}
-use mathlib.Core.Option.{none}
+use mathlib.Core.Option.{Option, none}
 use mathlib.Core.List.{List, []}
 use lib.ListN.{length, drop}
 use lib.Dec.{eqb, leb}
@@ -10,20 +10,16 @@ use Rattle.bits.specs.Bits.{Bits}
 use Rattle.bits.specs.Reader.{Answer, got, refused, Reader}
 use Rattle.bits.specs.Placed.{window}
 use Rattle.bits.specs.Written.{putBits}
-use Rattle.elements.specs.Numbers.{u64Of}
 use Rattle.elements.specs.Table.{Counted}
 use Rattle.elements.specs.Kinds.{Slot, Element, identifierOf, content}
 use Rattle.messages.specs.Head.{uLocationUpdateDemand, dLocationUpdateAccept, dAttachDetachGroupIdentity}
 use Rattle.messages.specs.Format.{Format, message, Walked, walkMessage}
 use Rattle.messages.specs.Questions.{Asked, firstNo}
-use Rattle.messages.specs.Demand.{demandHead, demandLayout, demandTable, demandOf, noDemandOptions, demandBits, demandAsked, demandNormal, SameDemand}
-use Rattle.messages.specs.Accept.{acceptHead, acceptLayout, acceptTable, acceptOf, noAcceptOptions, acceptBits, acceptAsked, acceptNormal, SameAccept}
-use Rattle.messages.specs.AttachDetach.{attachDetachHead, attachDetachLayout, attachDetachTable, attachDetachOf, attachDetachBits, attachDetachAsked, attachDetachNormal, SameAttachDetach}
-use Rattle.messages.specs.declared.u_location_update_demand.DemandHead.{DemandHead}
+use Rattle.messages.specs.Demand.{demandHeadOf, demandHead, demandLayout, demandTable, demandOf, noDemandOptions, demandBits, demandAsked, demandNormal, SameDemand}
+use Rattle.messages.specs.Accept.{acceptHeadOf, acceptHead, acceptLayout, acceptTable, acceptOf, noAcceptOptions, acceptBits, acceptAsked, acceptNormal, SameAccept}
+use Rattle.messages.specs.AttachDetach.{attachDetachHeadOf, attachDetachHead, attachDetachLayout, attachDetachTable, attachDetachOf, attachDetachBits, attachDetachAsked, attachDetachNormal, SameAttachDetach}
 use Rattle.messages.specs.declared.u_location_update_demand.ULocationUpdateDemand.{ULocationUpdateDemand}
-use Rattle.messages.specs.declared.d_location_update_accept.AcceptHead.{AcceptHead}
 use Rattle.messages.specs.declared.d_location_update_accept.DLocationUpdateAccept.{DLocationUpdateAccept}
-use Rattle.messages.specs.declared.d_attach_detach_group_identity.AttachDetachHead.{AttachDetachHead}
 use Rattle.messages.specs.declared.d_attach_detach_group_identity.DAttachDetachGroupIdentity.{DAttachDetachGroupIdentity}
 use Rattle.messages.specs.declared.Record.{Record}
 use Rattle.messages.specs.declared.Reading.{Reading}
@@ -34,27 +30,13 @@ use Rattle.messages.specs.declared.Verdict.the-variants.{Accepted, Refus
 -- ## records
 
 abbrev pub noDemand : ULocationUpdateDemand
-noDemand =
-    demandOf (record {
-      «location_update_type» = 0;
-      «request_to_append_la» = 0;
-      «cipher_control» = 0;
-      «ciphering_parameters» = u64Of none;
-      obit = 0;
-      options = noDemandOptions;
-    }) []
+noDemand = demandOf (demandHeadOf 0 0 0 none 0 noDemandOptions) []
 
 abbrev pub noAccept : DLocationUpdateAccept
-noAccept = acceptOf (record { «location_update_accept_type» = 0; obit = 0; options = noAcceptOptions }) []
+noAccept = acceptOf (acceptHeadOf 0 0 noAcceptOptions) []
 
 abbrev pub noAttachDetach : DAttachDetachGroupIdentity
-noAttachDetach =
-    attachDetachOf (record {
-      «group_identity_report» = 0;
-      «group_identity_acknowledgement_request» = 0;
-      «group_identity_attach_detach_mode» = 0;
-      obit = 0;
-    }) []
+noAttachDetach = attachDetachOf (attachDetachHeadOf 0 0 0 0) []
 
 -- all absent and zero
 abbrev pub noRecord : Record
@@ -71,35 +53,19 @@ ofAttachDetach a = record { demand = noDemand; accept = noAccept; «attach_detac
 
 -- ## the three messages
 
+-- a head and the O-bit in it, a layout, a table, and the record of a head and slots
+abbrev formatBy : {H : Type 0} → Reader H → (H → ℕ) → Reader Bool → List Slot → (H → List (Option Element) → Record) → Format Slot Element Record
+formatBy {H} head obit layout table finish =
+    record { Head = H; head = head; more = λ h. eqb (obit h) 1; layout = layout; table = table; finish = finish }
+
 abbrev pub demandFormat : Format Slot Element Record
-demandFormat = record {
-  Head = DemandHead;
-  head = demandHead;
-  more = λ h. eqb (h .obit) 1;
-  layout = demandLayout;
-  table = demandTable;
-  finish = λ h vs. ofDemand (demandOf h vs);
-}
+demandFormat = formatBy demandHead (λ h. h .obit) demandLayout demandTable (λ h vs. ofDemand (demandOf h vs))
 
 abbrev pub acceptFormat : Format Slot Element Record
-acceptFormat = record {
-  Head = AcceptHead;
-  head = acceptHead;
-  more = λ h. eqb (h .obit) 1;
-  layout = acceptLayout;
-  table = acceptTable;
-  finish = λ h vs. ofAccept (acceptOf h vs);
-}
+acceptFormat = formatBy acceptHead (λ h. h .obit) acceptLayout acceptTable (λ h vs. ofAccept (acceptOf h vs))
 
 abbrev pub attachDetachFormat : Format Slot Element Record
-attachDetachFormat = record {
-  Head = AttachDetachHead;
-  head = attachDetachHead;
-  more = λ h. eqb (h .obit) 1;
-  layout = attachDetachLayout;
-  table = attachDetachTable;
-  finish = λ h vs. ofAttachDetach (attachDetachOf h vs);
-}
+attachDetachFormat = formatBy attachDetachHead (λ h. h .obit) attachDetachLayout attachDetachTable (λ h vs. ofAttachDetach (attachDetachOf h vs))
 
 -- by the message's type number; 2 and 5 are tested, any other known one is 10
 abbrev pub byNumber : {A : Type 0} → ℕ → A → A → A → A

@@ -21,7 +21,7 @@ use Rattle.elements.specs.declared.group_identity_location_demand.GroupIdentity
 use Rattle.elements.specs.declared.typed_pdu_fields.OptionalType3.{OptionalType3}
 use Rattle.elements.specs.declared.group_identity_location_demand.OptionalLocationDemand.{OptionalLocationDemand}
 use Rattle.messages.specs.Head.{pduTypeWidth, uLocationUpdateDemand, pduType, behindObit, passIf, layoutOptions, anyOf, anyPresent, updateTypeWidth, ssiWidth, extensionWidth}
-use Rattle.messages.specs.Questions.{Asked, lengthFits}
+use Rattle.messages.specs.Questions.{Asked, allOf, lengthFits}
 use Rattle.messages.specs.declared.u_location_update_demand.DemandOptions.{DemandOptions}
 use Rattle.messages.specs.declared.u_location_update_demand.DemandHead.{DemandHead}
 use Rattle.messages.specs.declared.u_location_update_demand.ULocationUpdateDemand.{ULocationUpdateDemand}
@@ -66,18 +66,21 @@ noDemandOptions = demandOptionsOf none none none none none
 abbrev pub demandOptionsIf : Bool → Reader DemandOptions
 demandOptionsIf = behindObit demandOptions noDemandOptions
 
+abbrev pub demandHeadOf : ℕ → ℕ → ℕ → Option ℕ → ℕ → DemandOptions → DemandHead
+demandHeadOf u a c p o t = record {
+  «location_update_type» = u;
+  «request_to_append_la» = a;
+  «cipher_control» = c;
+  «ciphering_parameters» = u64Of p;
+  obit = o;
+  options = t;
+}
+
 unfoldable pub demandHead : Reader DemandHead
 demandHead =
     pduType uLocationUpdateDemand >>= λ z. field updateTypeWidth >>= λ u. field flagWidth >>= λ a. field flagWidth >>= λ c.
     optionalNumber (eqb c 1) cipheringWidth >>= λ p. field flagWidth >>= λ o. demandOptionsIf (eqb o 1) >>= λ t.
-    got (record {
-      «location_update_type» = u;
-      «request_to_append_la» = a;
-      «cipher_control» = c;
-      «ciphering_parameters» = u64Of p;
-      obit = o;
-      options = t;
-    })
+    got (demandHeadOf u a c p o t)
 
 -- the walk's layout
 unfoldable pub demandLayout : Reader Bool
@@ -143,17 +146,21 @@ demandBits r =
     ++ (digits flagWidth (r .«cipher_control») ++ (optionBits (digits cipheringWidth) (inU64 (r .«ciphering_parameters»))
     ++ announced (demandMore r) (demandOptionsBits r (tableBits identifierOf contentBits demandTable (demandSlots r)))))))
 
+-- the parts of question 8
+abbrev pub demandParts : ULocationUpdateDemand → List Bool
+demandParts r =
+    inWidth updateTypeWidth (r .«location_update_type») ∷ inWidth flagWidth (r .«request_to_append_la») ∷ inWidth flagWidth (r .«cipher_control»)
+    ∷ optionAll (inWidth cipheringWidth) (inU64 (r .«ciphering_parameters»)) ∷ optionAll classFits (classIn r)
+    ∷ optionAll (inWidth savingModeWidth) (inU8 (r .«energy_saving_mode»)) ∷ optionAll (inWidth laValueWidth) (inU64 (r .«la_information»))
+    ∷ optionAll (inWidth ssiWidth) (inU64 (r .ssi)) ∷ optionAll (inWidth extensionWidth) (inU64 (r .«address_extension»))
+    ∷ optionAll locationDemandFits (locationIn r) ∷ optionAll type3Fits (type3Held (r .«group_report_response»))
+    ∷ optionAll type3Fits (type3Held (r .«authentication_uplink»)) ∷ optionAll type3Fits (type3Held (r .«extended_capabilities»))
+    ∷ optionAll type3Fits (type3Held (r .proprietary)) ∷ []
+
 -- THE QUESTIONS
 unfoldable pub demandAsked : ULocationUpdateDemand → Asked
 demandAsked r = record {
-  fits =
-      inWidth updateTypeWidth (r .«location_update_type») && (inWidth flagWidth (r .«request_to_append_la») && (inWidth flagWidth (r .«cipher_control»)
-      && (optionAll (inWidth cipheringWidth) (inU64 (r .«ciphering_parameters»)) && (optionAll classFits (classIn r)
-      && (optionAll (inWidth savingModeWidth) (inU8 (r .«energy_saving_mode»)) && (optionAll (inWidth laValueWidth) (inU64 (r .«la_information»))
-      && (optionAll (inWidth ssiWidth) (inU64 (r .ssi)) && (optionAll (inWidth extensionWidth) (inU64 (r .«address_extension»))
-      && (optionAll locationDemandFits (locationIn r) && (optionAll type3Fits (type3Held (r .«group_report_response»))
-      && (optionAll type3Fits (type3Held (r .«authentication_uplink»)) && (optionAll type3Fits (type3Held (r .«extended_capabilities»))
-      && optionAll type3Fits (type3Held (r .proprietary))))))))))))));
+  fits = allOf (demandParts r);
   ciphered = Bool·beq (r .«ciphering_parameters» .present) (eqb (r .«cipher_control») 1);
   attached = optionAll (λ d. listOne uplinks (d .«group_identity_uplink»)) (locationIn r);
   formed = optionAll (λ d. listListed uplinks (d .«group_identity_uplink»)) (locationIn r);

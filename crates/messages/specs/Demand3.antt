@@ -13,17 +13,22 @@ use Rattle.bits.specs.ReaderLaws.{refused-got, split-then, local-tail, got-loca
 use Rattle.elements.specs.Table.{Counted, counted, Piece, walk, cut, unlisted, total, usedOf, isListed, scanTable}
 use Rattle.elements.specs.TableLaws.{used-of, scan-strict, scan-tail, scan-local}
 use Rattle.elements.specs.Cut.{Alike, give, refuse, cut-length, cut-none, Walks, scan-cut, scan-walks}
+use Rattle.messages.specs.FormatLaws.{message-made}
 use Rattle.messages.specs.Format.{Format, Walked, leaves, stays, body, message, walked, walkBehind, walkMessage}
 
--- what is asked of a message's parts
-pub record Regular {S A R : Type 0} (content : S → ℕ → Reader A) (f : Format S A R) : Type 0 where
-  pub contents-local : (s : S) (n : ℕ) → Local (content s n)
-  -- a content that is read has its declared length
-  pub contents-pass : (s : S) (n : ℕ) → Passes n (content s n)
+-- what is asked of a message's head
+pub record RegularHead {S A R : Type 0} (f : Format S A R) : Type 0 where
   pub head-local : Local (f .head)
   pub layout-local : Local (f .layout)
   -- the layout passes the bits that the head reads
   pub head-follows : Follows (f .head) (f .layout) (f .more)
+
+-- and of its parts
+pub record Regular {S A R : Type 0} (content : S → ℕ → Reader A) (f : Format S A R) : Type 0 where
+  pub contents-local : (s : S) (n : ℕ) → Local (content s n)
+  -- a content that is read has its declared length
+  pub contents-pass : (s : S) (n : ℕ) → Passes n (content s n)
+  pub heads : RegularHead f
 
 -- no record is given
 abbrev pub Refuses : {A : Type 0} → Answer A → Type 0
@@ -72,7 +77,7 @@ module _ {S A R : Type 0} (identifier : S → ℕ) (content : S → ℕ → Read
 
     pub strict-local : Local strict
     unfolding message
-    strict-local = bind-local (f .head) _ (ok .head-local) (λ h. body-local h (f .more h))
+    strict-local = bind-local (f .head) _ (ok .heads .head-local) (λ h. body-local h (f .more h))
 
     body-tail : (b : Bool) (h : f .Head) (o : Bool) → Tail (body identifier content f b h o)
     body-tail b h true = bind-tail (scanTable identifier content b (f .table)) _ (scan-tail identifier content (ok .contents-local) listed b (f .table)) (λ x. local-tail (got-local _))
@@ -80,13 +85,13 @@ module _ {S A R : Type 0} (identifier : S → ℕ) (content : S → ℕ → Read
 
     pub message-tail : (b : Bool) → Tail (message identifier content f b)
     unfolding message
-    message-tail b = bind-tail (f .head) _ (local-tail (ok .head-local)) (λ h. body-tail b h (f .more h))
+    message-tail b = bind-tail (f .head) _ (local-tail (ok .heads .head-local)) (λ h. body-tail b h (f .more h))
 
     -- ## what a record rests on
 
     -- the head goes along with the layout
     head-at : (bs : Bits) {o : Bool} {mid : Bits} {h : f .Head} {r : Bits} → f .layout bs ≡ got o mid → f .head bs ≡ got h r → (f .more h ≡ o) × (r ≡ mid)
-    head-at bs {h = h} {r = r} e p = let q = ok .head-follows .at bs h r p in (cc, cc)
+    head-at bs {h = h} {r = r} e p = let q = ok .heads .head-follows .at bs h r p in (cc, cc)
 
     -- the walk stays inside
     walks-at : (b : Bool) (bs : Bits) {mid : Bits} {x : Counted R} {r : Bits} → f .layout bs ≡ got true mid → message identifier content f b bs ≡ got x r
@@ -99,14 +104,8 @@ module _ {S A R : Type 0} (identifier : S → ℕ) (content : S → ℕ → Read
         rw (← g) (scan-walks identifier content (ok .contents-local) (ok .contents-pass) listed b (f .table) (λ i t. t) mid q′)))
 
     strict-counts : (bs : Bits) {x : Counted R} {r : Bits} → strict bs ≡ got x r → x .skipped ≡ 0
-    unfolding message
-    strict-counts bs {x} {r} e = split-then (f .head bs) _ e (λ h m p q. go h m (f .more h) q)
-      where
-        go : (h : f .Head) (m : Bits) (o : Bool) → body identifier content f false h o m ≡ got x r → x .skipped ≡ 0
-        go h m true q = split-then (scanTable identifier content false (f .table) m) _ q (λ y r′ q′ k′.
-            let g : counted (y .skipped) (f .finish h (y .value)) ≡ x = cc in
-            rw (← g) (scan-strict identifier content listed (f .table) m q′))
-        go h m false q = let g : counted 0 (f .finish h (map (λ s. none) (f .table))) ≡ x = cc in rw (← g)
+    strict-counts bs e =
+        message-made identifier content f (λ x. x .skipped ≡ 0) false bs (λ h m p y r q. scan-strict identifier content listed (f .table) m q) (λ h m p. refl) e
 
     -- ## the proof
 
@@ -133,7 +132,7 @@ module _ {S A R : Type 0} (identifier : S → ℕ) (content : S → ℕ → Read
 
     no-layout : (bs : Bits) {n : ℕ} → f .layout bs ≡ refused n → (b : Bool) → Refuses (message identifier content f b bs)
     unfolding message
-    no-layout bs e b = refuses-by (message identifier content f b bs) (λ x r p. split-then (f .head bs) _ p (λ h m q k. refused-got (sym e ∙ ok .head-follows .at bs h m q)))
+    no-layout bs e b = refuses-by (message identifier content f b bs) (λ x r p. split-then (f .head bs) _ p (λ h m q k. refused-got (sym e ∙ ok .heads .head-follows .at bs h m q)))
 
     no-walk : (bs : Bits) {mid : Bits} {n : ℕ} → f .layout bs ≡ got true mid → walk mid ≡ refused n → (b : Bool) → Refuses (message identifier content f b bs)
     no-walk bs e w b = refuses-by (message identifier content f b bs) (λ x r p. refused-got (sym w ∙ walks-at b bs e p .walked))
@@ -152,7 +151,7 @@ module _ {S A R : Type 0} (identifier : S → ℕ) (content : S → ℕ → Read
     alike-table : (u : Bits) → ((zs : Bits) → f .layout (u ++ zs) ≡ got true zs) → (ps : List Piece) (mid : Bits) {rest : Bits} → walk mid ≡ got ps rest
         → Alike (length (unlisted listed ps)) (skipping (u ++ mid)) (strict (u ++ cut listed ps rest))
     unfolding message
-    alike-table u any ps mid {rest} w = go (agree (ok .head-local) u (λ zs h r p. head-at (u ++ zs) (any zs) p .1) mid c)
+    alike-table u any ps mid {rest} w = go (agree (ok .heads .head-local) u (λ zs h r p. head-at (u ++ zs) (any zs) p .1) mid c)
       where
         c : Bits
         c = cut listed ps rest
@@ -170,7 +169,7 @@ module _ {S A R : Type 0} (identifier : S → ℕ) (content : S → ℕ → Read
     inside-table : (bs : Bits) {mid : Bits} → f .layout bs ≡ got true mid → (ps : List Piece) {rest : Bits} → walk mid ≡ got ps rest
         → Inside bs (unlisted listed ps) (usedOf bs mid ++ cut listed ps rest)
     inside-table bs {mid} e ps {rest} w =
-        let v = ok .layout-local .at bs true mid e in
+        let v = ok .heads .layout-local .at bs true mid e in
         let u : Bits = v .used in
         let c : Bits = cut listed ps rest in
         rw (used-of u mid (v .split)) (inside-by bs (unlisted listed ps) (u ++ c)

@@ -1,34 +1,33 @@
 -- Laws of U-LOCATION UPDATE DEMAND.
 use Prim.Native.Nat.{ℕ, _*_, _^_, _<_}
 use native.Mathlib.Omega.{arith}
-use mathlib.Core.Path.{_≡_, refl, ap, _∙_}
+use mathlib.Core.Path.{_≡_, refl, ap}
 use mathlib.Core.Bool.{Bool, true, false, cond, Bool·beq}
 use mathlib.Core.Option.{Option, none, some}
 use mathlib.Core.List.{List, [], _∷_, _++_, append-assoc}
-use lib.ListN.{getD}
 use lib.Dec.{eqb}
 use borrow.Author.Tests.{ltb-true}
 use Rattle.bits.specs.Bits.{Bits, bit, digits}
 use Rattle.bits.specs.Reader.{got, field, Local}
 use Rattle.bits.specs.ReaderLaws.{split-then, local·rules, follows·rules, Follows, field-passes, field-back}
-use Rattle.elements.specs.Numbers.{held, isPresent, optionalNumber, optionAll, optionMap, optionBits, inWidth, inU8, u64Of, inU64, flagWidth, type2, announced}
-use Rattle.elements.specs.NumbersLaws.{never, both, number-back, one-bit, type2-back, type2-same-back, type2-number-back, optionalNumber-back, held-option, same-held, same-map, same-self, same-normal, sameU8, sameU8-self, sameU64, sameU64-self}
+use Rattle.elements.specs.Numbers.{held, isPresent, optionalNumber, optionMap, optionBits, inWidth, inU8, u64Of, inU64, flagWidth, type2, announced}
+use Rattle.elements.specs.NumbersLaws.{never, number-back, one-bit, type2-back, type2-same-back, type2-number-back, optionalNumber-back, held-option, same-held, same-map, same-self, same-normal, sameU8, sameU8-self, sameU64, sameU64-self}
 use Rattle.elements.specs.ClassOfMs.{classOfMs, classBits, classFits, noClass, classOption}
 use Rattle.elements.specs.ClassOfMsLaws.{class-local, class-passes, class-back}
 use Rattle.elements.specs.EnergySaving.{savingModeWidth}
-use Rattle.elements.specs.Generics.{noType3, type3Fits}
+use Rattle.elements.specs.Generics.{noType3}
 use Rattle.elements.specs.Table.{Counted, counted, isListed}
 use Rattle.elements.specs.TableBack.{distinct, normalSlots}
-use Rattle.elements.specs.Locations.{noLocationDemand, locationDemandFits, locationDemandNormal, SameLocationDemand}
+use Rattle.elements.specs.Locations.{noLocationDemand, locationDemandNormal, SameLocationDemand}
 use Rattle.elements.specs.Kinds.{Element, identifierOf, content, contentBits, elementNormal, type3Held, type3Option, locationDemandOption}
 use Rattle.elements.specs.declared.group_identity_location_demand.GroupIdentityLocationDemand.{GroupIdentityLocationDemand}
 use Rattle.messages.specs.Head.{pduTypeWidth, uLocationUpdateDemand, pduType, updateTypeWidth, passIf, passType2, layoutOptions, anyOf, anyPresent, ssiWidth, extensionWidth}
 use Rattle.messages.specs.HeadLaws.{type-local, type-passes, type-back, layout-options-local, type2-local, type2-follows, end-follows, behind-local, behind-follows, announced-back, both-false, none-held}
-use Rattle.messages.specs.QuestionsLaws.{six}
+use Rattle.messages.specs.QuestionsLaws.{EachOf, each-of}
 use Rattle.messages.specs.Format.{message}
 use Rattle.messages.specs.FormatLaws.{format-back, format-own}
 use Rattle.messages.specs.SlotsLaws.{slotsNormal, SlotsRead, SlotsOwn, slot-own, type3-slot, location-demand-slot, type3-own, location-demand-own}
-use Rattle.messages.specs.Demand.{cipheringWidth, classWidth, laWidth, laValueWidth, halved, demandOptionsOf, demandOptions, noDemandOptions, demandOptionsIf, demandHead, demandLayout, demandTable, demandOf, classIn, locationIn, demandSlots, demandMore, demandOptionsBits, demandBits, demandAsked, demandNormal, SameDemand}
+use Rattle.messages.specs.Demand.{demandParts, demandHeadOf, cipheringWidth, classWidth, laWidth, laValueWidth, halved, demandOptionsOf, demandOptions, noDemandOptions, demandOptionsIf, demandHead, demandLayout, demandTable, demandOf, classIn, locationIn, demandSlots, demandMore, demandOptionsBits, demandBits, demandAsked, demandNormal, SameDemand}
 use Rattle.messages.specs.Calls.{ofDemand, demandFormat}
 use Rattle.messages.specs.declared.u_location_update_demand.DemandOptions.{DemandOptions}
 use Rattle.messages.specs.declared.u_location_update_demand.DemandHead.{DemandHead}
@@ -61,44 +60,9 @@ demand-follows = search (follows·rules, type-passes, options-follow) depth 20
 -- ## what is asked
 
 -- QUESTION 8, part by part
-pub record DemandFits (r : ULocationUpdateDemand) : Type 0 where
-  pub update-type : inWidth updateTypeWidth (r .«location_update_type») ≡ true
-  pub append : inWidth flagWidth (r .«request_to_append_la») ≡ true
-  pub cipher : inWidth flagWidth (r .«cipher_control») ≡ true
-  pub ciphering : optionAll (inWidth cipheringWidth) (inU64 (r .«ciphering_parameters»)) ≡ true
-  pub class : optionAll classFits (classIn r) ≡ true
-  pub saving : optionAll (inWidth savingModeWidth) (inU8 (r .«energy_saving_mode»)) ≡ true
-  pub la : optionAll (inWidth laValueWidth) (inU64 (r .«la_information»)) ≡ true
-  pub ssi : optionAll (inWidth ssiWidth) (inU64 (r .ssi)) ≡ true
-  pub extension : optionAll (inWidth extensionWidth) (inU64 (r .«address_extension»)) ≡ true
-  pub location : optionAll locationDemandFits (locationIn r) ≡ true
-  pub report-response : optionAll type3Fits (type3Held (r .«group_report_response»)) ≡ true
-  pub authentication : optionAll type3Fits (type3Held (r .«authentication_uplink»)) ≡ true
-  pub capabilities : optionAll type3Fits (type3Held (r .«extended_capabilities»)) ≡ true
-  pub proprietary : optionAll type3Fits (type3Held (r .proprietary)) ≡ true
-
-pub demand-fits : (r : ULocationUpdateDemand) → demandAsked r .fits ≡ true → DemandFits r
+pub demand-fits : (r : ULocationUpdateDemand) → demandAsked r .fits ≡ true → EachOf (demandParts r)
 unfolding demandAsked
-demand-fits r f =
-    let x = six _ _ _ _ _ _ _ f in
-    let y = six _ _ _ _ _ _ _ (x .others) in
-    let z = both _ _ (y .others) in
-    record {
-      update-type = x .first;
-      append = x .second;
-      cipher = x .third;
-      ciphering = x .fourth;
-      class = x .fifth;
-      saving = x .sixth;
-      la = y .first;
-      ssi = y .second;
-      extension = y .third;
-      location = y .fourth;
-      report-response = y .fifth;
-      authentication = y .sixth;
-      capabilities = z .0;
-      proprietary = z .1;
-    }
+demand-fits r = each-of (demandParts r)
 
 -- QUESTION 9: the ciphering parameters are there where cipher control says
 there : (b p : Bool) (v : ℕ) → Bool·beq p b ≡ true → b ≡ isPresent (held p v)
@@ -129,14 +93,14 @@ module _ (r : ULocationUpdateDemand) where
   options-append : (xs rest : Bits) → demandOptionsBits r xs ++ rest ≡ demandOptionsBits r (xs ++ rest)
   options-append xs rest = simp append-assoc
 
-  options-back : DemandFits r → (rest : Bits) → demandOptions (demandOptionsBits r rest) ≡ got (optionsIn r) rest
+  options-back : EachOf (demandParts r) → (rest : Bits) → demandOptions (demandOptionsBits r rest) ≡ got (optionsIn r) rest
   unfolding demandOptions
   options-back x rest =
-      rw (type2-same-back classOfMs classBits classFits class-back (classIn r) (x .class) _)
-      (rw (type2-number-back savingModeWidth (inU8 (r .«energy_saving_mode»)) (x .saving) _)
-      (rw (type2-back (field laWidth) (λ la. digits laWidth (2 * la)) (λ la. 2 * la) (inWidth laValueWidth) la-back (inU64 (r .«la_information»)) (x .la) _)
-      (rw (type2-number-back ssiWidth (inU64 (r .ssi)) (x .ssi) _)
-      (rw (type2-number-back extensionWidth (inU64 (r .«address_extension»)) (x .extension) rest)
+      rw (type2-same-back classOfMs classBits classFits class-back (classIn r) (x 4) _)
+      (rw (type2-number-back savingModeWidth (inU8 (r .«energy_saving_mode»)) (x 5) _)
+      (rw (type2-back (field laWidth) (λ la. digits laWidth (2 * la)) (λ la. 2 * la) (inWidth laValueWidth) la-back (inU64 (r .«la_information»)) (x 6) _)
+      (rw (type2-number-back ssiWidth (inU64 (r .ssi)) (x 7) _)
+      (rw (type2-number-back extensionWidth (inU64 (r .«address_extension»)) (x 8) rest)
       (rw (la-halved (inU64 (r .«la_information»))))))))
 
   options-absent : demandMore r ≡ false → noDemandOptions ≡ optionsIn r
@@ -149,16 +113,10 @@ module _ (r : ULocationUpdateDemand) where
 
   -- the head that is read where the O-bit is o
   abbrev headOf : Bool → DemandHead
-  headOf o = record {
-    «location_update_type» = r .«location_update_type»;
-    «request_to_append_la» = r .«request_to_append_la»;
-    «cipher_control» = r .«cipher_control»;
-    «ciphering_parameters» = u64Of (inU64 (r .«ciphering_parameters»));
-    obit = bit o;
-    options = optionsIn r;
-  }
+  headOf o =
+      demandHeadOf (r .«location_update_type») (r .«request_to_append_la») (r .«cipher_control») (inU64 (r .«ciphering_parameters»)) (bit o) (optionsIn r)
 
-  head-back : DemandFits r → demandAsked r .ciphered ≡ true → (xs rest : Bits)
+  head-back : EachOf (demandParts r) → demandAsked r .ciphered ≡ true → (xs rest : Bits)
       → demandHead ((digits pduTypeWidth uLocationUpdateDemand ++ (digits updateTypeWidth (r .«location_update_type») ++ (digits flagWidth (r .«request_to_append_la»)
       ++ (digits flagWidth (r .«cipher_control») ++ (optionBits (digits cipheringWidth) (inU64 (r .«ciphering_parameters»))
       ++ announced (demandMore r) (demandOptionsBits r xs)))))) ++ rest)
@@ -172,10 +130,10 @@ module _ (r : ULocationUpdateDemand) where
       rw (append-assoc (digits pduTypeWidth uLocationUpdateDemand) _ rest, append-assoc (digits updateTypeWidth u) _ rest, append-assoc (digits flagWidth a) _ rest)
       (rw (append-assoc (digits flagWidth k) _ rest, append-assoc (optionBits (digits cipheringWidth) p) _ rest)
       (rw (type-back uLocationUpdateDemand refl _)
-      (rw (number-back updateTypeWidth u (x .update-type) _)
-      (rw (number-back flagWidth a (x .append) _)
-      (rw (number-back flagWidth k (x .cipher) _)
-      (rw (optionalNumber-back cipheringWidth (eqb k 1) p (ciphered r c) (x .ciphering) _)
+      (rw (number-back updateTypeWidth u (x 0) _)
+      (rw (number-back flagWidth a (x 1) _)
+      (rw (number-back flagWidth k (x 2) _)
+      (rw (optionalNumber-back cipheringWidth (eqb k 1) p (ciphered r c) (x 3) _)
       (announced-back demandOptions noDemandOptions (demandOptionsBits r) (optionsIn r) options-append (options-back x) (demandMore r) options-absent _ xs rest)))))))
 
   -- with the slots it makes the normal form
@@ -183,11 +141,11 @@ module _ (r : ULocationUpdateDemand) where
   unfolding normalSlots demandNormal
   made o =
       rw (
-        location-demand-slot 3 (locationIn r),
-        type3-slot 4 (type3Held (r .«group_report_response»)),
-        type3-slot 9 (type3Held (r .«authentication_uplink»)),
-        type3-slot 11 (type3Held (r .«extended_capabilities»)),
-        type3-slot 15 (type3Held (r .proprietary)),
+        location-demand-slot 3 .at (locationIn r),
+        type3-slot 4 .at (type3Held (r .«group_report_response»)),
+        type3-slot 9 .at (type3Held (r .«authentication_uplink»)),
+        type3-slot 11 .at (type3Held (r .«extended_capabilities»)),
+        type3-slot 15 .at (type3Held (r .proprietary)),
       )
 
   pub demand-back : demandAsked r .fits ≡ true → demandAsked r .ciphered ≡ true → SlotsRead demandTable (demandSlots r) → (rest : Bits)
@@ -196,8 +154,7 @@ module _ (r : ULocationUpdateDemand) where
   demand-back f c backs rest =
       let o : Bool = demandMore r in
       format-back identifierOf content contentBits elementNormal demandFormat refl (demandSlots r) backs o slots-absent _ rest
-      (head-back (demand-fits r f) c _ rest) (one-bit o)
-      ∙ ap (λ (n : ULocationUpdateDemand). got (counted 0 (ofDemand n)) rest) (made o)
+      (head-back (demand-fits r f) c _ rest) (one-bit o) (ap ofDemand (made o))
 
 -- ## the normal form
 
@@ -278,14 +235,7 @@ head-own bs {h} e =
     split-then (optionalNumber (eqb c 1) cipheringWidth b₄) _ q₄ (λ p b₅ p₅ q₅.
     split-then (field flagWidth b₅) _ q₅ (λ o b₆ p₆ q₆.
     split-then (demandOptionsIf (eqb o 1) b₆) _ q₆ (λ t b₇ p₇ q₇.
-    let made : _≡_ {A = DemandHead} (record {
-      «location_update_type» = u;
-      «request_to_append_la» = a;
-      «cipher_control» = c;
-      «ciphering_parameters» = u64Of p;
-      obit = o;
-      options = t;
-    }) h = cc in
+    let made : demandHeadOf u a c p o t ≡ h = cc in
     rw (← made) (record { ciphering = λ i. u64Of (held-option 0 p i); options = options-own (eqb o 1) b₆ p₇ }))))))))
 
 made-own : (h : DemandHead) → HeadOwn h → (vs : List (Option Element)) → slotsNormal demandTable vs ≡ vs → demandNormal (demandOf h vs) ≡ demandOf h vs
@@ -300,11 +250,11 @@ made-own h x vs e = λ i. record {
   «la_information» = x .options i .«la_information»;
   ssi = x .options i .ssi;
   «address_extension» = x .options i .«address_extension»;
-  «group_identity_location_demand» = location-demand-own 3 (getD vs 0 none) (slot-own demandTable vs e 0 (omega arith)) i;
-  «group_report_response» = type3-own 4 (getD vs 1 none) (slot-own demandTable vs e 1 (omega arith)) i;
-  «authentication_uplink» = type3-own 9 (getD vs 2 none) (slot-own demandTable vs e 2 (omega arith)) i;
-  «extended_capabilities» = type3-own 11 (getD vs 3 none) (slot-own demandTable vs e 3 (omega arith)) i;
-  proprietary = type3-own 15 (getD vs 4 none) (slot-own demandTable vs e 4 (omega arith)) i;
+  «group_identity_location_demand» = slot-own demandTable vs e 0 (omega arith) (location-demand-own 3) i;
+  «group_report_response» = slot-own demandTable vs e 1 (omega arith) (type3-own 4) i;
+  «authentication_uplink» = slot-own demandTable vs e 2 (omega arith) (type3-own 9) i;
+  «extended_capabilities» = slot-own demandTable vs e 3 (omega arith) (type3-own 11) i;
+  proprietary = slot-own demandTable vs e 4 (omega arith) (type3-own 15) i;
 }
 
 pub demand-own : SlotsOwn demandTable → (b : Bool) (bs : Bits) {x : Counted Record} {rest : Bits}

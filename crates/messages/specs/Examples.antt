@@ -9,7 +9,6 @@ use Rattle.bits.specs.Bits.{number, digits, bitsOf}
 use Rattle.bits.specs.Reader.{Answer, got, refused, field, pass, times}
 use Rattle.bits.specs.Placed.{window}
 use Rattle.bits.specs.Written.{splice, octetsOf, putBits}
-use Rattle.elements.specs.Numbers.{u64Of}
 use Rattle.elements.specs.Table.{look, header, closing, whole, piece, manyOf, many, pieces, isListed, scan}
 use Rattle.elements.specs.TableWritten.{elementBits, tableBits}
 use Rattle.elements.specs.Groups.{typeOf, listedForm, addressOf, addressBits, addressFits, uplinkAddress, uplink, downlinkAddress, downlink, attachmentInfo, uplinkBits, uplinkFits, uplinkOne, uplinkListed}
@@ -22,10 +21,11 @@ use Rattle.elements.specs.Kinds.{isType3, contentOf, contentBitsOf, absentType3
 use Rattle.elements.specs.declared.class_of_ms.ClassOfMs.{ClassOfMs}
 use Rattle.elements.specs.declared.group_identity_uplink.OptionalUplinks.{OptionalUplinks}
 use Rattle.elements.specs.declared.group_identity_downlink.OptionalDownlinks.{OptionalDownlinks}
+use Rattle.elements.specs.declared.typed_pdu_fields.OptionalType4.{OptionalType4}
 use Rattle.messages.specs.Format.{message}
 use Rattle.messages.specs.Head.{pduType, anyOf, anyPresent}
 use Rattle.messages.specs.Questions.{firstNo}
-use Rattle.messages.specs.Demand.{demandHead, demandOptionsOf, demandOptions, demandOf, demandMore, demandBits, demandAsked}
+use Rattle.messages.specs.Demand.{demandHeadOf, demandHead, demandOptionsOf, demandOptions, demandOf, demandMore, demandBits, demandAsked}
 use Rattle.messages.specs.Accept.{acceptHead, acceptOptions, noAcceptOptions, acceptOf, acceptMore, acceptBits, acceptAsked}
 use Rattle.messages.specs.AttachDetach.{attachDetachHead, attachDetachOf, attachDetachBits, attachDetachAsked}
 use Rattle.messages.specs.Calls.{ofDemand, ofAccept, ofAttachDetach, noReading, known, goodWindow, goodCall, reading, writingRefusal, writing, octetsWritten}
@@ -76,14 +76,7 @@ refusing n = record { verdict = Refused n; written = 0 }
 
 -- update type 3, a cipher control, ciphering parameters, and an SSI
 abbrev headWith : ℕ → Option ℕ → Option ℕ → DemandHead
-headWith control parameters ssi = record {
-  «location_update_type» = 3;
-  «request_to_append_la» = 0;
-  «cipher_control» = control;
-  «ciphering_parameters» = u64Of parameters;
-  obit = 0;
-  options = demandOptionsOf none none none ssi none;
-}
+headWith control parameters ssi = demandHeadOf 3 0 control parameters 0 (demandOptionsOf none none none ssi none)
 
 abbrev demandWith : ℕ → Option ℕ → Option ℕ → ULocationUpdateDemand
 demandWith control parameters ssi = demandOf (headWith control parameters ssi) []
@@ -99,29 +92,24 @@ withResponse = ofDemand (demandOf (headWith 0 none none) (none ∷ some (isType3
 abbrev version7 : ClassOfMs
 version7 = classOf (0 ∷ 0 ∷ 0 ∷ 0 ∷ 0 ∷ 0 ∷ 0 ∷ 0 ∷ 0 ∷ 0 ∷ 0 ∷ 0 ∷ 0 ∷ 0 ∷ 0 ∷ 0 ∷ 7 ∷ 0 ∷ 0 ∷ 0 ∷ 0 ∷ 0 ∷ [])
 
--- an attach/detach with a generic type 4 element of a length, a number of entries and data
-abbrev withType4 : ℕ → ℕ → ℕ → Record
-withType4 len elems value = ofAttachDetach (record {
+-- an attach/detach whose absent list has a count of 100, with its acknowledgement request and mode, and a generic type 4 element
+abbrev hundred : ℕ → ℕ → OptionalType4 → Record
+hundred acknowledgement mode security = ofAttachDetach (record {
   «group_identity_report» = 0;
-  «group_identity_acknowledgement_request» = 0;
-  «group_identity_attach_detach_mode» = 0;
+  «group_identity_acknowledgement_request» = acknowledgement;
+  «group_identity_attach_detach_mode» = mode;
   proprietary = absentType3;
   «group_report_response» = absentType3;
   «group_identity_downlink» = record { present = false; count = 100; groups = [] };
-  «group_identity_security_related_information» = record { present = true; value = record { len = len; elems = elems; «data» = value } };
+  «group_identity_security_related_information» = security;
 })
 
--- an attach/detach whose absent list has a count of 100
+-- the element of a length, a number of entries and data
+abbrev withType4 : ℕ → ℕ → ℕ → Record
+withType4 len elems value = hundred 0 0 (record { present = true; value = record { len = len; elems = elems; «data» = value } })
+
 abbrev absentHundred : Record
-absentHundred = ofAttachDetach (record {
-  «group_identity_report» = 0;
-  «group_identity_acknowledgement_request» = 1;
-  «group_identity_attach_detach_mode» = 1;
-  proprietary = absentType3;
-  «group_report_response» = absentType3;
-  «group_identity_downlink» = record { present = false; count = 100; groups = [] };
-  «group_identity_security_related_information» = absentType4;
-})
+absentHundred = hundred 1 1 absentType4
 
 -- ## the table
 

@@ -14,6 +14,21 @@ use Rattle.elements.specs.TableBack.{distinct, SlotsBack, normalSlots, table-ba
 use Rattle.messages.specs.Head.{anyPresent}
 use Rattle.messages.specs.Format.{Format, body, message}
 
+-- what holds of a head with the slots that the table gives, and of a head alone, holds of each message that is read
+pub message-made : {S A R : Type 0} (identifier : S → ℕ) (content : S → ℕ → Reader A) (f : Format S A R) (P : Counted R → Type 0) (b : Bool) (bs : Bits)
+    → ((h : f .Head) (mid : Bits) → f .head bs ≡ got h mid → (y : Counted (List (Option A))) (rest : Bits)
+    → scanTable identifier content b (f .table) mid ≡ got y rest → P (counted (y .skipped) (f .finish h (y .value))))
+    → ((h : f .Head) (mid : Bits) → f .head bs ≡ got h mid → P (counted 0 (f .finish h (map (λ s. none) (f .table)))))
+    → {x : Counted R} {rest : Bits} → message identifier content f b bs ≡ got x rest → P x
+unfolding message
+message-made identifier content f P b bs table none-there {x} {rest} e = split-then (f .head bs) _ e (λ h mid p q. go h mid p (f .more h) q)
+  where
+    go : (h : f .Head) (mid : Bits) → f .head bs ≡ got h mid → (o : Bool) → body identifier content f b h o mid ≡ got x rest → P x
+    go h mid p true q = split-then (scanTable identifier content b (f .table) mid) _ q (λ y r p′ q′.
+        let g : counted (y .skipped) (f .finish h (y .value)) ≡ x = cc in
+        rw (← g) (table h mid p y r p′))
+    go h mid p false q = let g : counted 0 (f .finish h (map (λ s. none) (f .table))) ≡ x = cc in rw (← g) (none-there h mid p)
+
 module _ {S A : Type 0} (identifier : S → ℕ) (content : S → ℕ → Reader A) (contentBits : S → A → Bits) (normal : S → A → A) where
   -- slots of which none is present
   absent-slots : (ss : List S) (vs : List (Option A)) → anyPresent vs ≡ false → map (λ s. none) ss ≡ normalSlots normal ss vs
@@ -33,9 +48,9 @@ module _ {S A : Type 0} (identifier : S → ℕ) (content : S → ℕ → Reader
     pub format-back : distinct identifier (f .table) ≡ true → (vs : List (Option A)) → SlotsBack content contentBits normal (f .table) vs
         → (more : Bool) → (more ≡ false → anyPresent vs ≡ false) → (bs rest : Bits) {h : f .Head}
         → f .head bs ≡ got h (cond more (tableBits identifier contentBits (f .table) vs) [] ++ rest) → f .more h ≡ more
-        → message identifier content f false bs ≡ got (counted 0 (f .finish h (normalSlots normal (f .table) vs))) rest
+        → {r : R} → f .finish h (normalSlots normal (f .table) vs) ≡ r → message identifier content f false bs ≡ got (counted 0 r) rest
     unfolding message
-    format-back apart vs backs more absent bs rest {h} e m = rw e (rw m (go more absent))
+    format-back apart vs backs more absent bs rest {h} e m made = rw e (rw (m, ← made) (go more absent))
       where
         go : (b : Bool) → (b ≡ false → anyPresent vs ≡ false)
             → body identifier content f false h b (cond b (tableBits identifier contentBits (f .table) vs) [] ++ rest)
@@ -51,13 +66,6 @@ module _ {S A : Type 0} (identifier : S → ℕ) (content : S → ℕ → Reader
         → ((bs rest : Bits) (y : Counted (List (Option A))) → scanTable identifier content b (f .table) bs ≡ got y rest
         → normalSlots normal (f .table) (y .value) ≡ y .value)
         → (bs : Bits) {x : Counted R} {rest : Bits} → message identifier content f b bs ≡ got x rest → own (x .value) ≡ x .value
-    unfolding message
-    format-own own made b slots bs {x} {rest} e = split-then (f .head bs) _ e (λ h mid p q. go h mid p (f .more h) q)
-      where
-        go : (h : f .Head) (mid : Bits) → f .head bs ≡ got h mid → (o : Bool) → body identifier content f b h o mid ≡ got x rest → own (x .value) ≡ x .value
-        go h mid p true q = split-then (scanTable identifier content b (f .table) mid) _ q (λ y r′ p′ q′.
-            let g : counted (y .skipped) (f .finish h (y .value)) ≡ x = cc in
-            rw (← g) (made bs mid h p (y .value) (slots mid r′ y p′)))
-        go h mid p false q =
-            let g : counted 0 (f .finish h (map (λ s. none) (f .table))) ≡ x = cc in
-            rw (← g) (made bs mid h p _ (absent-own (f .table)))
+    format-own own made b slots bs e =
+        message-made identifier content f (λ x. own (x .value) ≡ x .value) b bs (λ h mid p y r q. made bs mid h p (y .value) (slots mid r y q))
+        (λ h mid p. made bs mid h p _ (absent-own (f .table))) e

@@ -14,7 +14,7 @@ use Rattle.elements.specs.Table.{Counted, counted}
 use Rattle.elements.specs.Kinds.{Slot, Element, content}
 use Rattle.elements.specs.declared.group_identity_location_demand.GroupIdentityLocationDemand.{GroupIdentityLocationDemand}
 use Rattle.elements.specs.declared.group_identity_location_accept.GroupIdentityLocationAccept.{GroupIdentityLocationAccept}
-use Rattle.messages.specs.Demand3.{Regular}
+use Rattle.messages.specs.Demand3.{RegularHead, Regular}
 use Rattle.messages.specs.Demand.{demandSlots}
 use Rattle.messages.specs.Accept.{acceptSlots}
 use Rattle.messages.specs.AttachDetach.{attachDetachSlots}
@@ -26,28 +26,13 @@ use Rattle.messages.specs.AttachDetachLaws.{attach-detach-head-local, at
 use Rattle.messages.specs.declared.Record.{Record}
 
 -- what demand 3 asks of a message
+regular-head : (m : Message) → RegularHead (formatOf m)
+regular-head demand = record { head-local = demand-head-local; layout-local = demand-layout-local; head-follows = demand-follows }
+regular-head accept = record { head-local = accept-head-local; layout-local = accept-layout-local; head-follows = accept-follows }
+regular-head attachDetach = record { head-local = attach-detach-head-local; layout-local = attach-detach-layout-local; head-follows = attach-detach-follows }
+
 pub regular : ((s : Slot) (n : ℕ) → Local (content s n)) → ((s : Slot) (n : ℕ) → Passes n (content s n)) → (m : Message) → Regular content (formatOf m)
-regular local passes demand = record {
-  contents-local = local;
-  contents-pass = passes;
-  head-local = demand-head-local;
-  layout-local = demand-layout-local;
-  head-follows = demand-follows;
-}
-regular local passes accept = record {
-  contents-local = local;
-  contents-pass = passes;
-  head-local = accept-head-local;
-  layout-local = accept-layout-local;
-  head-follows = accept-follows;
-}
-regular local passes attachDetach = record {
-  contents-local = local;
-  contents-pass = passes;
-  head-local = attach-detach-head-local;
-  layout-local = attach-detach-layout-local;
-  head-follows = attach-detach-follows;
-}
+regular local passes m = record { contents-local = local; contents-pass = passes; heads = regular-head m }
 
 -- what each slot of the message holds
 abbrev pub messageSlots : Message → Record → List (Option Element)
@@ -84,9 +69,9 @@ pub message-normal-same : ((d : GroupIdentityLocationDemand) → locationDemandF
     → SameLocationAccept d (locationAcceptNormal d))
     → (m : Message) (r : Record) → messageAsked m r .fits ≡ true → FullList m r → SameMessage m r (messageNormal m r)
 message-normal-same demands accepts demand r f full =
-    demand-normal-same (r .demand) (λ e. demands _ (rw e at (demand-fits (r .demand) f .location)) full)
+    demand-normal-same (r .demand) (λ e. demands _ (rw e at (demand-fits (r .demand) f 9)) full)
 message-normal-same demands accepts accept r f full =
-    accept-normal-same (r .accept) (λ e. accepts _ (rw e at (accept-fits (r .accept) f .location)) full)
+    accept-normal-same (r .accept) (λ e. accepts _ (rw e at (accept-fits (r .accept) f 8)) full)
 message-normal-same demands accepts attachDetach r f full = attach-detach-normal-same (r .«attach_detach») f full
 
 -- a record that was read is its own normal form

@@ -3,8 +3,8 @@ use Prim.Native.Nat.{ℕ, _+_, _-_, _*_, _/_, _≤_, min}
 use native.Mathlib.Omega.{arith}
 use mathlib.Core.Path.{_≡_, refl, sym, ap, _∙_}
 use mathlib.Core.Bool.{Bool, true, false, cond}
-use mathlib.Core.Option.{Option, none}
-use mathlib.Core.List.{List, map}
+use mathlib.Core.Option.{Option}
+use mathlib.Core.List.{List}
 use lib.ListN.{length, take, drop, length-drop}
 use lib.Seq.{take-all}
 use lib.Dec.{leb, eqb}
@@ -12,17 +12,16 @@ use borrow.Author.Tests.{leb-true}
 use Rattle.bits.specs.PduParseError.{badCall}
 use Rattle.bits.specs.Bits.{Bits}
 use Rattle.bits.specs.Reader.{Answer, got, refused}
-use Rattle.bits.specs.ReaderLaws.{split-then}
 use Rattle.bits.specs.Placed.{window, Placed, placed, halted, at, refusal}
 use Rattle.bits.specs.PlacedLaws.{told, told-not, length-window}
 use Rattle.bits.specs.declared.bitbuffer.Cursor.{Cursor}
 use Rattle.elements.specs.NumbersLaws.{both}
 use Rattle.elements.specs.Answers.{asSkipped}
-use Rattle.elements.specs.Table.{Counted, counted, scanTable}
+use Rattle.elements.specs.Table.{Counted, counted}
 use Rattle.elements.specs.Kinds.{Element, identifierOf, content}
 use Rattle.elements.specs.declared.typed_pdu_fields.Skipped.{Skipped}
 use Rattle.elements.specs.declared.typed_pdu_fields.Skipped.the-variants as S
-use Rattle.messages.specs.Format.{body, message}
+use Rattle.messages.specs.FormatLaws.{message-made}
 use Rattle.messages.specs.Demand3.{message-tail}
 use Rattle.messages.specs.ReadBack.{messages-regular}
 use Rattle.messages.specs.CallNumbers.{accepted-refused}
@@ -47,16 +46,8 @@ module _ (m : Message) where
   -- what holds of each record that is made of a head and slots holds of each record that is read
   made-by : (P : Record → Type 0) → ((h : formatOf m .Head) (vs : List (Option Element)) → P (formatOf m .finish h vs))
       → (b : Bool) (bs : Bits) {x : Counted Record} {rest : Bits} → readMessage m b bs ≡ got x rest → P (x .value)
-  unfolding message
-  made-by P made b bs {x} {rest} e = split-then (formatOf m .head bs) _ e (λ h mid p q. go h mid (formatOf m .more h) q)
-    where
-      go : (h : formatOf m .Head) (mid : Bits) (o : Bool) → body identifierOf content (formatOf m) b h o mid ≡ got x rest → P (x .value)
-      go h mid true q = split-then (scanTable identifierOf content b (formatOf m .table) mid) _ q (λ y r′ p′ q′.
-          let g : counted (y .skipped) (formatOf m .finish h (y .value)) ≡ x = cc in
-          rw (← g) (made h (y .value)))
-      go h mid false q =
-          let g : counted 0 (formatOf m .finish h (map (λ s. none) (formatOf m .table))) ≡ x = cc in
-          rw (← g) (made h _)
+  made-by P made b bs e =
+      message-made identifierOf content (formatOf m) (λ x. P (x .value)) b bs (λ h mid p y r q. made h (y .value)) (λ h mid p. made h _) e
 
   module _ {X R : Type 0} where
     -- an answer that holds a verdict and beside it the message's own record, which `of` puts into the call's
@@ -154,3 +145,12 @@ module _ (m how : ℕ) (os : List ℕ) (first end : ℕ) where
 
   pub behind-refused : {r : Reading} {n : ℕ} → r ≡ reading m how os first end → r .verdict ≡ Refused n → os ≡ behind (reading m how os first end) os
   behind-refused e v = rw (← e) (rw v)
+
+-- ## a fact with its statement, so that a proof names it once and its needs cite it
+
+pub record Fact : Type 1 where
+  pub Said : Type 0
+  pub holds : Said
+
+abbrev pub fact : {A : Type 0} → A → Fact
+fact {A} h = record { Said = A; holds = h }

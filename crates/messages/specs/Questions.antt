@@ -1,6 +1,7 @@
 -- What a writing call asks of a record (document 01, 'A writing call'): the answers, and the order in which they are asked.
 use Prim.Native.Nat.{ℕ, _^_}
-use mathlib.Core.Bool.{Bool, cond}
+use mathlib.Core.Bool.{Bool, true, cond, _&&_}
+use mathlib.Core.List.{List, [], _∷_}
 use lib.ListN.{length}
 use lib.Dec.{leb, ltb}
 use Rattle.bits.specs.PduParseError.{valueTooLarge, cipheringMismatch, notOneAttachment, addressFormUnlisted, stayAliveWithFrame, frameMissing, type4NotWritten, lengthTooLarge, windowTooShort}
@@ -25,6 +26,11 @@ pub record Asked : Type 0 where
   pub type3Only : Bool
   -- 15: the length of each structure and of each group list fits 11 bits
   pub short : Bool
+
+-- all tests hold
+abbrev pub allOf : List Bool → Bool
+allOf [] = true
+allOf (b ∷ bs) = b && allOf bs
 
 abbrev pub lengthFits : Bits → Bool
 lengthFits xs = ltb (length xs) (2 ^ lengthWidth)

@@ -9,7 +9,7 @@ use Rattle.bits.specs.Reader.{got}
 use Rattle.elements.specs.Table.{Counted, counted}
 use Rattle.elements.specs.TableLaws.{AllSlots, slots-end, one-slot, scan-all}
 use Rattle.elements.specs.TableBack.{normalSlots}
-use Rattle.elements.specs.LocationsLaws.{location-demand-same, location-demand-normal-same, location-accept-same, location-accept-normal-same}
+use Rattle.elements.specs.LocationsLaws.{demand-laws, accept-laws}
 use Rattle.elements.specs.Kinds.{Slot, Element, identifierOf, content, elementNormal}
 use Rattle.elements.specs.KindsLaws.{content-local, content-passes, content-own, type3-slot-back, type4-slot-back, location-demand-slot-back, location-accept-slot-back, downlinks-slot-back}
 use Rattle.messages.specs.Demand.{demandAsked}
@@ -42,11 +42,11 @@ read-own m = message-own m (slots-own (formatOf m .table))
 
 -- records that are the same have one normal form
 pub same-normal : (m : Message) (r s : Record) → SameMessage m r s → messageNormal m r ≡ messageNormal m s
-same-normal = message-same (λ d e. location-demand-same) (λ d e. location-accept-same)
+same-normal = message-same (demand-laws .same) (accept-laws .same)
 
 -- a record that passes question 8 is the same as its normal form
 pub normal-same : (m : Message) (r : Record) → messageAsked m r .fits ≡ true → FullList m r → SameMessage m r (messageNormal m r)
-normal-same = message-normal-same location-demand-normal-same location-accept-normal-same
+normal-same = message-normal-same (demand-laws .normal-same) (accept-laws .normal-same)
 
 -- from the answers to questions 8, 10, 11 and 15
 slots-read : (m : Message) (r : Record) → FullList m r → messageAsked m r .fits ≡ true → messageAsked m r .attached ≡ true → messageAsked m r .formed ≡ true
@@ -55,14 +55,14 @@ unfolding demandAsked acceptAsked attachDetachAsked
 slots-read demand r full f a l h =
     let d = r .demand in
     let x = demand-fits d f in (
-      location-demand-slot-back 3 (d .«group_identity_location_demand») full (x .location) a l h,
+      location-demand-slot-back 3 (d .«group_identity_location_demand») full (x 9) a l h,
       (
-        type3-slot-back 4 (d .«group_report_response») (x .report-response),
+        type3-slot-back 4 (d .«group_report_response») (x 10),
         (
-          type3-slot-back 9 (d .«authentication_uplink») (x .authentication),
+          type3-slot-back 9 (d .«authentication_uplink») (x 11),
           (
-            type3-slot-back 11 (d .«extended_capabilities») (x .capabilities),
-            (type3-slot-back 15 (d .proprietary) (x .proprietary), tt),
+            type3-slot-back 11 (d .«extended_capabilities») (x 12),
+            (type3-slot-back 15 (d .proprietary) (x 13), tt),
           ),
         ),
       ),
@@ -70,20 +70,20 @@ slots-read demand r full f a l h =
 slots-read accept r full f a l h =
     let d = r .accept in
     let x = accept-fits d f in (
-      type4-slot-back 2 (d .«new_registered_area») (x .registered-area),
+      type4-slot-back 2 (d .«new_registered_area») (x 6),
       (
-        type3-slot-back 3 (d .«security_downlink») (x .security),
+        type3-slot-back 3 (d .«security_downlink») (x 7),
         (
-          location-accept-slot-back 5 (d .«group_identity_location_accept») full (x .location) a l h,
+          location-accept-slot-back 5 (d .«group_identity_location_accept») full (x 8) a l h,
           (
-            type3-slot-back 1 (d .«default_group_attachment_lifetime») (x .lifetime),
+            type3-slot-back 1 (d .«default_group_attachment_lifetime») (x 9),
             (
-              type3-slot-back 10 (d .«authentication_downlink») (x .authentication),
+              type3-slot-back 10 (d .«authentication_downlink») (x 10),
               (
-                type4-slot-back 12 (d .«group_identity_security_related_information») (x .group-security),
+                type4-slot-back 12 (d .«group_identity_security_related_information») (x 11),
                 (
-                  type3-slot-back 13 (d .«cell_type_control») (x .cell-type),
-                  (type3-slot-back 15 (d .proprietary) (x .proprietary), tt),
+                  type3-slot-back 13 (d .«cell_type_control») (x 12),
+                  (type3-slot-back 15 (d .proprietary) (x 13), tt),
                 ),
               ),
             ),
@@ -94,12 +94,12 @@ slots-read accept r full f a l h =
 slots-read attachDetach r full f a l h =
     let d = r .«attach_detach» in
     let x = attach-detach-fits d f in (
-      type3-slot-back 15 (d .proprietary) (x .proprietary),
+      type3-slot-back 15 (d .proprietary) (x 3),
       (
-        type3-slot-back 4 (d .«group_report_response») (x .report-response),
+        type3-slot-back 4 (d .«group_report_response») (x 4),
         (
-          downlinks-slot-back 7 (d .«group_identity_downlink») (record { array = full; fits = x .list; one = a; listed = l; short = ltb-true _ _ h }),
-          (type4-slot-back 12 (d .«group_identity_security_related_information») (x .group-security), tt),
+          downlinks-slot-back 7 (d .«group_identity_downlink») (record { array = full; fits = x 5; one = a; listed = l; short = ltb-true _ _ h }),
+          (type4-slot-back 12 (d .«group_identity_security_related_information») (x 6), tt),
         ),
       ),
     )

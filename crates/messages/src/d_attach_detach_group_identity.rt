@@ -31,6 +31,7 @@ use elements::typed_pdu_fields::Skipped;
 use elements::typed_pdu_fields::TYPE3;
 use elements::typed_pdu_fields::TYPE4;
 use elements::typed_pdu_fields::Table;
+use elements::typed_pdu_fields::read_empty_table;
 use elements::typed_pdu_fields::scan_part;
 use elements::typed_pdu_fields::type3_of;
 use elements::typed_pdu_fields::type4_of;
@@ -219,7 +220,7 @@ fn read_elements(
 }
 
 impl DAttachDetachGroupIdentity {
-    // The message: its head, and behind an O-bit of 1 its listed elements.
+    // The message: its head, and behind an O-bit of 1 its listed elements, if there are any.
     pub fn from_bitbuf(c: Cursor, octets: &[u8], skipping: bool) -> AttachDetachRead
         ensures { λ r. ⌜ r ≡ attachDetachAnswer (at (message identifierOf content attachDetachFormat skipping) (now (octets .entry)) c) ⌝ }
     {
@@ -227,11 +228,12 @@ impl DAttachDetachGroupIdentity {
         let AttachDetachHeadRead::Read(head, c1) = h else {
             return refused(h.refusal());
         };
-        if head.obit == 1 {
+        let e = read_empty_table(c1, octets, head.obit == 1);
+        let Moved::To(c2) = e else {
             return read_elements(c1, octets, head, skipping);
-        }
+        };
         AttachDetachRead {
-            verdict: Skipped::Count(0, c1),
+            verdict: Skipped::Count(0, c2),
             record: record_of(head, no_downlinks(), NO_GENERICS),
         }
     }

@@ -43,6 +43,7 @@ use elements::typed_pdu_fields::TYPE3;
 use elements::typed_pdu_fields::TYPE4;
 use elements::typed_pdu_fields::Table;
 use elements::typed_pdu_fields::parse_type2_generic;
+use elements::typed_pdu_fields::read_empty_table;
 use elements::typed_pdu_fields::scan_part;
 use elements::typed_pdu_fields::type3_of;
 use elements::typed_pdu_fields::type4_of;
@@ -348,7 +349,7 @@ fn read_elements(c: Cursor, octets: &[u8], head: AcceptHead, skipping: bool) -> 
 }
 
 impl DLocationUpdateAccept {
-    // The message: its head, and behind an O-bit of 1 its listed elements.
+    // The message: its head, and behind an O-bit of 1 its listed elements, if there are any.
     pub fn from_bitbuf(c: Cursor, octets: &[u8], skipping: bool) -> AcceptRead
         ensures { λ r. ⌜ r ≡ acceptAnswer (at (message identifierOf content acceptFormat skipping) (now (octets .entry)) c) ⌝ }
     {
@@ -356,15 +357,16 @@ impl DLocationUpdateAccept {
         let AcceptHeadRead::Read(head, c1) = h else {
             return refused(h.refusal());
         };
-        if head.obit == 1 {
+        let e = read_empty_table(c1, octets, head.obit == 1);
+        let Moved::To(c2) = e else {
             return read_elements(c1, octets, head, skipping);
-        }
+        };
         let none = OptionalLocationAccept {
             present: false,
             value: no_location_accept(),
         };
         AcceptRead {
-            verdict: Skipped::Count(0, c1),
+            verdict: Skipped::Count(0, c2),
             record: record_of(head, none, NO_GENERICS),
         }
     }

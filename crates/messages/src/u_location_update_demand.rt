@@ -41,6 +41,7 @@ use elements::typed_pdu_fields::TYPE3;
 use elements::typed_pdu_fields::Table;
 use elements::typed_pdu_fields::parse_type2_generic;
 use elements::typed_pdu_fields::parse_type2_u8;
+use elements::typed_pdu_fields::read_empty_table;
 use elements::typed_pdu_fields::read_optional_u64;
 use elements::typed_pdu_fields::scan_part;
 use elements::typed_pdu_fields::skip_if;
@@ -61,8 +62,8 @@ pub struct DemandHead {
     pub request_to_append_la: u8,
     pub cipher_control: u8,
     pub ciphering_parameters: OptionalU64,
-    pub obit: u8,
     pub options: DemandOptions,
+    pub obit: u8,
 }
 
 #[repr(C)]
@@ -264,7 +265,7 @@ fn record_of(
 ) -> ULocationUpdateDemand
     ensures { λ r. ⌜ r ≡ demandFrom head location generics ⌝ }
 {
-    let ciphering_parameters = head.ciphering_parameters;
+    let ciphering = head.ciphering_parameters;
     let options = head.options;
     let class_of_ms = options.class_of_ms;
     let energy_saving_mode = options.energy_saving_mode;
@@ -275,7 +276,10 @@ fn record_of(
         location_update_type: head.location_update_type,
         request_to_append_la: head.request_to_append_la,
         cipher_control: head.cipher_control,
-        ciphering_parameters: ciphering_parameters,
+        ciphering_parameters: OptionalU64 {
+            present: ciphering.present,
+            value: ciphering.value,
+        },
         class_of_ms: class_of_ms,
         energy_saving_mode: energy_saving_mode,
         la_information: la_information,
@@ -362,7 +366,7 @@ fn read_elements(c: Cursor, octets: &[u8], head: DemandHead, skipping: bool) -> 
 }
 
 impl ULocationUpdateDemand {
-    // The message: its head, and behind an O-bit of 1 its listed elements.
+    // The message: its head, and behind an O-bit of 1 its listed elements, if there are any.
     pub fn from_bitbuf(c: Cursor, octets: &[u8], skipping: bool) -> DemandRead
         ensures { λ r. ⌜ r ≡ demandAnswer (at (message identifierOf content demandFormat skipping) (now (octets .entry)) c) ⌝ }
     {
@@ -370,15 +374,16 @@ impl ULocationUpdateDemand {
         let DemandHeadRead::Read(head, c1) = h else {
             return refused(h.refusal());
         };
-        if head.obit == 1 {
+        let e = read_empty_table(c1, octets, head.obit == 1);
+        let Moved::To(c2) = e else {
             return read_elements(c1, octets, head, skipping);
-        }
+        };
         let none = OptionalLocationDemand {
             present: false,
             value: no_location_demand(),
         };
         DemandRead {
-            verdict: Skipped::Count(0, c1),
+            verdict: Skipped::Count(0, c2),
             record: record_of(head, none, NO_GENERICS),
         }
     }

@@ -1,12 +1,11 @@
 -- `elements::class_of_ms::parse_type2_class_of_ms` meets its contract: the 22 fields are one field of 24 bits, split.
 use Rattle.bits.specs.Reader.{word}
 use Rattle.bits.specs.Placed.{asField8, asField32}
-use Rattle.bits.specs.PlacedLaws.{so, by, by-refusal, step, stop, done}
+use Rattle.bits.specs.PlacedLaws.{so, by, by-refusal}
 use Rattle.elements.specs.ClassOfMsLaws.{class-local, class-there, class-ended}
-use borrow.Author.Tests.{eq-eqb, ne-eqb}
 use mathlib.Core.Path.{ap}
 use Rattle.bits.specs.ReaderLaws.{local-tail}
-use Rattle.elements.specs.PlacedOptional.{wanted, unwanted, type2-there, type2-ended}
+use Rattle.elements.specs.PlacedOptional.{type2-ended, type2-refused, type2-read, type2-absent}
 use borrow.Author.Needs.{needs}
 use Rattle.elements.proofs.class_of_ms.parse_type2_class_of_ms.Statement.{statement}
 use Rattle.elements.proofs.class_of_ms.parse_type2_class_of_ms.Tie as tie
@@ -44,10 +43,9 @@ returns-2 : tie.Need-returns-2
 unfolding word
 returns-2 c =
     so
-    (type2-there _ _
-    (by (c .before .before .before .before .before .before .before .before .read-u8 .ensures) (ap asField8 (c .before .before .before .before .before .before .f .given .1)))
-    (wanted _ _ _ (eq-eqb _ _ (c .before .before .before .before .if1 .taken))
-    (stop _ (class-ended (by-refusal (c .before .before .before .read-u32 .ensures) (ap asField32 (c .before .enum-told2 .given .1)) (c .refusal2 .ensures))))))
+    (type2-refused _ _
+    (by (c .before .before .before .before .before .before .before .before .read-u8 .ensures) (ap asField8 (c .before .before .before .before .before .before .f .given .1))) (c .before .before .before .before .if1 .taken)
+    (class-ended (by-refusal (c .before .before .before .read-u32 .ensures) (ap asField32 (c .before .enum-told2 .given .1)) (c .refusal2 .ensures))))
 
 fields-requires : tie.Need-fields-requires
 fields-requires c κs = search needs
@@ -57,17 +55,14 @@ unfolding word
 returns-3 c =
     rw (c .fields .ensures)
     (so
-    (type2-there _ _
-    (by (c .before .before .before .before .before .before .before .before .before .read-u8 .ensures) (ap asField8 (c .before .before .before .before .before .before .before .f .given .1)))
-    (wanted _ _ _ (eq-eqb _ _ (c .before .before .before .before .before .if1 .taken))
-    (step _ (class-there (by (c .before .before .before .before .read-u32 .ensures) (ap asField32 (c .before .before .w .given .1)))) (local-tail class-local) done))))
+    (type2-read _ _
+    (by (c .before .before .before .before .before .before .before .before .before .read-u8 .ensures) (ap asField8 (c .before .before .before .before .before .before .before .f .given .1))) (c .before .before .before .before .before .if1 .taken) (local-tail class-local)
+    (class-there (by (c .before .before .before .before .read-u32 .ensures) (ap asField32 (c .before .before .w .given .1))))))
 
 returns-4 : tie.Need-returns-4
 unfolding word
 returns-4 c =
-    so
-    (type2-there _ _ (by (c .before .before .before .before .read-u8 .ensures) (ap asField8 (c .before .before .f .given .1)))
-    (unwanted _ _ _ (ne-eqb _ _ (c .if1 .left))))
+    so (type2-absent _ _ (by (c .before .before .before .before .read-u8 .ensures) (ap asField8 (c .before .before .f .given .1))) (c .if1 .left))
 
 pub parse-type2-class-of-ms-spec : {M : Type 1} → statement M
 parse-type2-class-of-ms-spec =

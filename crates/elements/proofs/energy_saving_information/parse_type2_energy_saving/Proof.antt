@@ -1,13 +1,12 @@
 -- `elements::energy_saving_information::parse_type2_energy_saving` meets its contract: the P-bit, and the information where it is 1.
-use borrow.Author.Tests.{eq-eqb, ne-eqb}
 use mathlib.Core.Path.{ap}
 use Rattle.bits.specs.Reader.{word}
 use Rattle.bits.specs.ReaderLaws.{local-tail}
 use Rattle.bits.specs.Placed.{asField8}
-use Rattle.bits.specs.PlacedLaws.{so, by, by-refusal, step, stop, done}
+use Rattle.bits.specs.PlacedLaws.{so, by, by-refusal}
 use Rattle.elements.specs.EnergySavingLaws.{saving-local}
 use Rattle.elements.specs.GroupAnswers.{asSaving}
-use Rattle.elements.specs.PlacedOptional.{wanted, unwanted, type2-there, type2-ended}
+use Rattle.elements.specs.PlacedOptional.{type2-ended, type2-refused, type2-read, type2-absent}
 use borrow.Author.Needs.{needs}
 use Rattle.elements.proofs.energy_saving_information.parse_type2_energy_saving.Statement.{statement}
 use Rattle.elements.proofs.energy_saving_information.parse_type2_energy_saving.Tie as tie
@@ -45,26 +44,22 @@ returns-2 : tie.Need-returns-2
 unfolding word
 returns-2 c =
     so
-    (type2-there _ _
-    (by (c .before .before .before .before .before .before .before .before .read-u8 .ensures) (ap asField8 (c .before .before .before .before .before .before .f .given .1)))
-    (wanted _ _ _ (eq-eqb _ _ (c .before .before .before .before .if1 .taken))
-    (stop _ (by-refusal (c .before .before .before .from-bitbuf .ensures) (ap asSaving (c .before .enum-told2 .given .1)) (c .refusal2 .ensures)))))
+    (type2-refused _ _
+    (by (c .before .before .before .before .before .before .before .before .read-u8 .ensures) (ap asField8 (c .before .before .before .before .before .before .f .given .1))) (c .before .before .before .before .if1 .taken)
+    (by-refusal (c .before .before .before .from-bitbuf .ensures) (ap asSaving (c .before .enum-told2 .given .1)) (c .refusal2 .ensures)))
 
 returns-3 : tie.Need-returns-3
 unfolding word
 returns-3 c =
     so
-    (type2-there _ _
-    (by (c .before .before .before .before .before .before .before .before .read-u8 .ensures) (ap asField8 (c .before .before .before .before .before .before .f .given .1)))
-    (wanted _ _ _ (eq-eqb _ _ (c .before .before .before .before .if1 .taken))
-    (step _ (by (c .before .before .before .from-bitbuf .ensures) (ap asSaving (c .before .s .given .1))) (local-tail saving-local) done)))
+    (type2-read _ _
+    (by (c .before .before .before .before .before .before .before .before .read-u8 .ensures) (ap asField8 (c .before .before .before .before .before .before .f .given .1))) (c .before .before .before .before .if1 .taken) (local-tail saving-local)
+    (by (c .before .before .before .from-bitbuf .ensures) (ap asSaving (c .before .s .given .1))))
 
 returns-4 : tie.Need-returns-4
 unfolding word
 returns-4 c =
-    so
-    (type2-there _ _ (by (c .before .before .before .before .read-u8 .ensures) (ap asField8 (c .before .before .f .given .1)))
-    (unwanted _ _ _ (ne-eqb _ _ (c .if1 .left))))
+    so (type2-absent _ _ (by (c .before .before .before .before .read-u8 .ensures) (ap asField8 (c .before .before .f .given .1))) (c .if1 .left))
 
 pub parse-type2-energy-saving-spec : {M : Type 1} → statement M
 parse-type2-energy-saving-spec =

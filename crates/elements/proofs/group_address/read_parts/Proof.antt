@@ -1,12 +1,27 @@
 -- `elements::group_address::read_parts` meets its contract: the parts of a form, one after the other, by the laws of an address.
-use Rattle.bits.specs.Reader.{word}
-use Rattle.bits.specs.PlacedLaws.{so, by, by-refusal}
-use Rattle.elements.specs.Answers.{asOptionalU32}
+use Rattle.bits.specs.Reader.{field, word}
+use Rattle.bits.specs.Placed.{placed}
+use Rattle.bits.specs.PlacedLaws.{Gives, so, by, by-refusal}
+use Rattle.elements.specs.Groups.{addressWidth}
+use Rattle.elements.specs.Answers.{optionalU32, asOptionalU32}
 use Rattle.elements.specs.PlacedGroups.{no-gssi, no-extension, no-vgssi, whole-address}
 use mathlib.Core.Path.{ap}
 use borrow.Author.Needs.{needs}
 use Rattle.elements.proofs.group_address.read_parts.Statement.{statement}
 use Rattle.elements.proofs.group_address.read_parts.Tie as tie
+
+-- what the calls read
+gssi-read : (c : tie.After-g) → let a = c .before .before .before .before .args in
+    Gives (optionalU32 (a .gssi) (field addressWidth))
+    (a .octets .now) (a .c) (placed (c .g .given .0 .0) (c .g .given .0 .1 .0))
+unfolding word
+gssi-read c = by (c .before .before .read-optional-u32 .ensures) (ap asOptionalU32 (c .g .given .1))
+
+extension-read : (c : tie.After-e) → let a = c .before .before .before .before .before .before .before .before .args in
+    Gives (optionalU32 (a .address-extension) (field addressWidth))
+    (a .octets .now) (c .before .before .before .before .g .given .0 .1 .0) (placed (c .e .given .0 .0) (c .e .given .0 .1 .0))
+unfolding word
+extension-read c = by (c .before .before .read-optional-u322 .ensures) (ap asOptionalU32 (c .e .given .1))
 
 read-optional-u32-requires : tie.Need-read-optional-u32-requires
 read-optional-u32-requires c κs = search needs
@@ -42,7 +57,7 @@ unfolding word
 returns-2 c =
     so
     (no-extension _
-    (by (c .before .before .before .before .before .before .before .read-optional-u32 .ensures) (ap asOptionalU32 (c .before .before .before .before .before .g .given .1)))
+    (gssi-read (c .before .before .before .before .before))
     (by-refusal (c .before .before .before .read-optional-u322 .ensures) (ap asOptionalU32 (c .before .enum-told2 .given .1)) (c .refusal2 .ensures)))
 
 read-optional-u32-requires-3 : tie.Need-read-optional-u32-requires-3
@@ -62,8 +77,8 @@ unfolding word
 returns-3 c =
     so
     (no-vgssi _
-    (by (c .before .before .before .before .before .before .before .before .before .before .before .read-optional-u32 .ensures) (ap asOptionalU32 (c .before .before .before .before .before .before .before .before .before .g .given .1)))
-    (by (c .before .before .before .before .before .before .before .read-optional-u322 .ensures) (ap asOptionalU32 (c .before .before .before .before .before .e .given .1)))
+    (gssi-read (c .before .before .before .before .before .before .before .before .before))
+    (extension-read (c .before .before .before .before .before))
     (by-refusal (c .before .before .before .read-optional-u323 .ensures) (ap asOptionalU32 (c .before .enum-told3 .given .1)) (c .refusal3 .ensures)))
 
 returns-4 : tie.Need-returns-4
@@ -71,8 +86,8 @@ unfolding word
 returns-4 c =
     so
     (whole-address _
-    (by (c .before .before .before .before .before .before .before .before .before .before .before .read-optional-u32 .ensures) (ap asOptionalU32 (c .before .before .before .before .before .before .before .before .before .g .given .1)))
-    (by (c .before .before .before .before .before .before .before .read-optional-u322 .ensures) (ap asOptionalU32 (c .before .before .before .before .before .e .given .1)))
+    (gssi-read (c .before .before .before .before .before .before .before .before .before))
+    (extension-read (c .before .before .before .before .before))
     (by (c .before .before .before .read-optional-u323 .ensures) (ap asOptionalU32 (c .before .v .given .1))))
 
 pub read-parts-spec : {M : Type 1} → statement M

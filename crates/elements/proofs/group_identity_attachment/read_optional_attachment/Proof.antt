@@ -1,11 +1,13 @@
 -- `elements::group_identity_attachment::read_optional_attachment` meets its contract: two fields where they are wanted.
 use mathlib.Core.Path.{ap}
-use Rattle.bits.specs.ReaderLaws.{local·rules}
+use Rattle.bits.specs.ReaderLaws.{local-tail}
 use Rattle.bits.specs.Placed.{asField8}
-use Rattle.bits.specs.PlacedLaws.{so, by, by-refusal, step, stop, done}
+use Rattle.bits.specs.PlacedLaws.{so, by, by-refusal, stop}
 use Rattle.bits.specs.Reader.{word}
 use Rattle.elements.specs.Groups.{attachmentInfo}
-use Rattle.elements.specs.PlacedOptional.{wanted, unwanted}
+use Rattle.elements.specs.GroupsLaws.{attachmentInfo-local}
+use Rattle.elements.specs.PlacedGroups.{no-class, whole-attachment}
+use Rattle.elements.specs.PlacedOptional.{wanted-refused, wanted-read, unwanted}
 use borrow.Author.Needs.{needs}
 use Rattle.elements.proofs.group_identity_attachment.read_optional_attachment.Statement.{statement}
 use Rattle.elements.proofs.group_identity_attachment.read_optional_attachment.Tie as tie
@@ -25,7 +27,7 @@ refusal-requires c κs = search needs
 returns : tie.Need-returns
 unfolding word attachmentInfo
 returns c =
-    so (wanted _ _ _ (c .before .before .before .before .if1 .taken) (stop _ (stop _ (by-refusal (c .before .before .before .read-u8 .ensures) (ap asField8 (c .before .enum-told .given .1)) (c .refusal .ensures)))))
+    so (wanted-refused _ _ _ (c .before .before .before .before .if1 .taken) (stop _ (by-refusal (c .before .before .before .read-u8 .ensures) (ap asField8 (c .before .enum-told .given .1)) (c .refusal .ensures))))
 
 read-u8-requires-2 : tie.Need-read-u8-requires-2
 read-u8-requires-2 c κs = search needs
@@ -43,22 +45,19 @@ returns-2 : tie.Need-returns-2
 unfolding word attachmentInfo
 returns-2 c =
     so
-    (wanted _ _ _ (c .before .before .before .before .before .before .before .before .if1 .taken)
-    (stop _
-    (step _
-    (by (c .before .before .before .before .before .before .before .read-u8 .ensures) (ap asField8 (c .before .before .before .before .before .l .given .1))) (search local·rules)
-    (stop _ (by-refusal (c .before .before .before .read-u82 .ensures) (ap asField8 (c .before .enum-told2 .given .1)) (c .refusal2 .ensures))))))
+    (wanted-refused _ _ _ (c .before .before .before .before .before .before .before .before .if1 .taken)
+    (no-class
+    (by (c .before .before .before .before .before .before .before .read-u8 .ensures) (ap asField8 (c .before .before .before .before .before .l .given .1)))
+    (by-refusal (c .before .before .before .read-u82 .ensures) (ap asField8 (c .before .enum-told2 .given .1)) (c .refusal2 .ensures))))
 
 returns-3 : tie.Need-returns-3
 unfolding word attachmentInfo
 returns-3 c =
     so
-    (wanted _ _ _ (c .before .before .before .before .before .before .before .before .if1 .taken)
-    (step _
-    (step _
-    (by (c .before .before .before .before .before .before .before .read-u8 .ensures) (ap asField8 (c .before .before .before .before .before .l .given .1))) (search local·rules)
-    (step _ (by (c .before .before .before .read-u82 .ensures) (ap asField8 (c .before .u .given .1))) (search local·rules) done))
-    (search local·rules) done))
+    (wanted-read _ _ _ (c .before .before .before .before .before .before .before .before .if1 .taken) (local-tail attachmentInfo-local)
+    (whole-attachment
+    (by (c .before .before .before .before .before .before .before .read-u8 .ensures) (ap asField8 (c .before .before .before .before .before .l .given .1)))
+    (by (c .before .before .before .read-u82 .ensures) (ap asField8 (c .before .u .given .1)))))
 
 returns-4 : tie.Need-returns-4
 returns-4 c = so (unwanted _ _ _ (c .if1 .left))

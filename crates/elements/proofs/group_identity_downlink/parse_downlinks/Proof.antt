@@ -1,15 +1,15 @@
 -- `elements::group_identity_downlink::parse_downlinks` meets its contract: by the laws of a list of either direction; a number of groups
 -- has six bits, so that there is room for them.
 use native.Mathlib.Omega.{arith}
-use mathlib.Core.Path.{ap}
+use mathlib.Core.Path.{refl, ap, _∙_}
 use Rattle.bits.specs.Reader.{word}
 use Rattle.bits.specs.Placed.{asField, asField8}
 use Rattle.bits.specs.PlacedLaws.{so, by, by-refusal, stop}
-use Rattle.elements.specs.ListsLaws.{downlinks-sound}
+use Rattle.elements.specs.Lists.{downlinks}
 use Rattle.elements.specs.GroupAnswers.{downlinksAnswer}
-use Rattle.elements.specs.Verdicts.{downlinks-beside}
+use Rattle.elements.specs.Verdicts.{answer}
 use Rattle.elements.specs.PlacedOptional.{field-small}
-use Rattle.elements.specs.PlacedLists.{no-number, underflow, no-groups, groups-on, whole-list, not-its-length}
+use Rattle.elements.specs.PlacedLists.{no-number, underflow, held-to}
 use borrow.Author.Needs.{needs}
 use Rattle.elements.proofs.group_identity_downlink.parse_downlinks.Statement.{statement}
 use Rattle.elements.proofs.group_identity_downlink.parse_downlinks.Tie as tie
@@ -55,7 +55,7 @@ unfolding word
 returns-2 c =
     rw (c .no-downlinks2 .ensures)
     (ap downlinksAnswer
-    (so (no-number downlinks-sound
+    (so (no-number downlinks
     (by (c .before .before .before .before .before .before .before .before .read .ensures) (ap asField (c .before .before .before .before .before .before .f .given .1)))
     (by-refusal (c .before .before .before .before .read-u8 .ensures) (ap asField8 (c .before .before .enum-told2 .given .1)) (c .before .refusal2 .ensures)))))
 
@@ -66,62 +66,29 @@ returns-3 : tie.Need-returns-3
 unfolding word
 returns-3 c =
     rw (c .no-downlinks3 .ensures)
-    (ap downlinksAnswer (so (underflow downlinks-sound
+    (ap downlinksAnswer (so (underflow downlinks
     (by (c .before .before .before .before .before .before .before .before .before .read .ensures) (ap asField (c .before .before .before .before .before .before .before .f .given .1)))
     (by (c .before .before .before .before .before .read-u8 .ensures) (ap asField8 (c .before .before .before .k .given .1))) (c .before .if1 .taken))))
 
 cast-read-downlinks : tie.Need-cast-read-downlinks
 cast-read-downlinks c = search needs
 
+sub-read-downlinks : tie.Need-sub-read-downlinks
+sub-read-downlinks c = search needs
+
 read-downlinks-requires : tie.Need-read-downlinks-requires
 unfolding word
 read-downlinks-requires c κs =
     omega (arith, field-small 6 (by (c .before .before .before .before .read-u8 .ensures) (ap asField8 (c .before .before .k .given .1))))
 
-enum-known-v : tie.Need-enum-known-v
-enum-known-v c = search needs
-
-enum-told-3 : tie.Need-enum-told-3
-enum-told-3 c = search needs
-
 returns-4 : tie.Need-returns-4
 unfolding word
 returns-4 c =
-    no-groups downlinks-sound
-    (by (c .before .before .before .before .before .before .before .before .before .before .before .read .ensures) (ap asField (c .before .before .before .before .before .before .before .before .before .f .given .1)))
-    (by (c .before .before .before .before .before .before .before .read-u8 .ensures) (ap asField8 (c .before .before .before .before .before .k .given .1)))
-    (omega arith) downlinks-beside (c .before .before .read-downlinks .ensures) (c .enum-told3 .given .1)
-
-sub-if2 : tie.Need-sub-if2
-unfolding word
-sub-if2 c =
-    groups-on downlinks-sound
-    (by (c .before .before .before .before .before .before .before .before .before .before .before .before .read .ensures) (ap asField (c .before .before .before .before .before .before .before .before .before .before .f .given .1)))
-    (by (c .before .before .before .before .before .before .before .before .read-u8 .ensures) (ap asField8 (c .before .before .before .before .before .before .k .given .1)))
-    (omega arith) downlinks-beside (c .before .before .before .read-downlinks .ensures) (c .before .v .given .1)
-
-sub-if2-2 : tie.Need-sub-if2-2
-sub-if2-2 c = search needs
-
-returns-5 : tie.Need-returns-5
-unfolding word
-returns-5 c =
-    whole-list downlinks-sound
-    (by (c .before .before .before .before .before .before .before .before .before .before .before .before .before .read .ensures) (ap asField (c .before .before .before .before .before .before .before .before .before .before .before .f .given .1)))
-    (by (c .before .before .before .before .before .before .before .before .before .read-u8 .ensures) (ap asField8 (c .before .before .before .before .before .before .before .k .given .1)))
-    (omega arith) downlinks-beside (c .before .before .before .before .read-downlinks .ensures) (c .before .before .v .given .1) (c .if2 .taken)
-
-no-downlinks-requires-4 : tie.Need-no-downlinks-requires-4
-no-downlinks-requires-4 c κs = search needs
-
-returns-6 : tie.Need-returns-6
-unfolding word
-returns-6 c =
-    rw (c .no-downlinks4 .ensures)
-    (not-its-length downlinks-sound
-    (by (c .before .before .before .before .before .before .before .before .before .before .before .before .before .before .read .ensures) (ap asField (c .before .before .before .before .before .before .before .before .before .before .before .before .f .given .1)))
-    (by (c .before .before .before .before .before .before .before .before .before .before .read-u8 .ensures) (ap asField8 (c .before .before .before .before .before .before .before .before .k .given .1)))
-    (omega arith) downlinks-beside (c .before .before .before .before .before .read-downlinks .ensures) (c .before .before .before .v .given .1) (c .before .if2 .left))
+    c .read-downlinks .ensures ∙ answer downlinksAnswer
+    (held-to downlinks
+    (by (c .before .before .before .before .before .before .before .before .before .read .ensures) (ap asField (c .before .before .before .before .before .before .before .f .given .1)))
+    (by (c .before .before .before .before .before .read-u8 .ensures) (ap asField8 (c .before .before .before .k .given .1)))
+    (omega arith) (by refl refl))
 
 pub parse-downlinks-spec : {M : Type 1} → statement M
 parse-downlinks-spec =
@@ -142,12 +109,6 @@ parse-downlinks-spec =
     no-downlinks-requires-3
     returns-3
     cast-read-downlinks
+    sub-read-downlinks
     read-downlinks-requires
-    enum-known-v
-    enum-told-3
-    returns-4
-    sub-if2
-    sub-if2-2
-    returns-5
-    no-downlinks-requires-4
-    returns-6)
+    returns-4)

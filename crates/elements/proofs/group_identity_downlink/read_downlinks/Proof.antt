@@ -2,21 +2,24 @@
 -- the front of the array, and that what is left to read is what was asked for.
 use borrow.Author.Needs.{needs}
 use Prim.Native.Nat.{_-_}
-use mathlib.Core.Path.{ap, sym}
+use mathlib.Core.Path.{ap}
 use Rattle.bits.specs.ReaderLaws.{local-tail}
-use Rattle.bits.specs.PlacedLaws.{by, by-refusal}
+use Rattle.bits.specs.PlacedLaws.{by, by-refusal, told}
+use Rattle.bits.specs.PlacedTimes.{exact, inexact, exact-stop}
 use Rattle.elements.specs.GroupsLaws.{downlink-local}
 use Rattle.elements.specs.Lists.{downlinks}
+use Rattle.elements.specs.ListsLaws.{downlinks-sound, entries-local}
+use Rattle.elements.specs.Verdicts.{answer}
 use Rattle.elements.specs.GroupAnswers.{asDownlink, downlinksAnswer}
 use Rattle.elements.specs.PlacedLists.{Filled, filled-none, filled-more, filled-not, filled-all}
 use Rattle.elements.proofs.group_identity_downlink.read_downlinks.Statement.{statement}
 use Rattle.elements.proofs.group_identity_downlink.read_downlinks.Tie as tie
 
 abbrev Inv-loop : tie.InvT-loop
-Inv-loop octets count groups₀ place₀ i₀ groups place i = Filled downlinks octets count place₀ groups place i
+Inv-loop c octets count len groups₀ place₀ i₀ groups place i = Filled downlinks octets count c groups place i
 
 abbrev μ-loop : tie.MeasureT-loop
-μ-loop octets count groups₀ place₀ i₀ groups place i = count - i
+μ-loop c octets count len groups₀ place₀ i₀ groups place i = count - i
 
 loop-holds : tie.Need-loop-holds Inv-loop μ-loop
 loop-holds c = filled-none downlinks
@@ -39,8 +42,8 @@ no-downlinks-requires c κs = search needs
 returns : tie.Need-returns Inv-loop μ-loop
 returns c =
     rw (c .no-downlinks .ensures)
-    (ap downlinksAnswer
-    (sym (filled-not downlinks (c .before .before .before .before .before .before .loop .inv) (c .before .before .before .before .before .loop-test .taken)
+    (answer downlinksAnswer
+    (exact-stop _ (filled-not downlinks (c .before .before .before .before .before .before .loop .inv) (c .before .before .before .before .before .loop-test .taken)
     (by-refusal (c .before .before .before .before .from-bitbuf .ensures) (ap asDownlink (c .before .before .enum-told .given .1)) (c .before .refusal .ensures)))))
 
 mul-groups : tie.Need-mul-groups Inv-loop μ-loop
@@ -60,9 +63,23 @@ loop-again c =
     filled-more downlinks (c .before .before .before .before .before .loop .inv) (c .before .before .before .before .loop-test .taken) (c .before .before .before .before .before .before .before .pre) (local-tail downlink-local)
     (by (c .before .before .before .from-bitbuf .ensures) (ap asDownlink (c .before .f .given .1)))
 
+sub-if1 : tie.Need-sub-if1 Inv-loop μ-loop
+sub-if1 c =
+    told (local-tail (entries-local downlinks-sound _)) (filled-all downlinks (c .before .loop .inv) (c .loop-test .left) (c .before .before .before .pre)) .on
+
 returns-2 : tie.Need-returns-2 Inv-loop μ-loop
 returns-2 c =
-    ap downlinksAnswer (sym (filled-all downlinks (c .before .loop .inv) (c .loop-test .left) (c .before .before .before .pre)))
+    answer downlinksAnswer
+    (exact _ (filled-all downlinks (c .before .before .loop .inv) (c .before .loop-test .left) (c .before .before .before .before .pre)) (local-tail (entries-local downlinks-sound _)) (c .if1 .taken))
+
+no-downlinks-requires-2 : tie.Need-no-downlinks-requires-2 Inv-loop μ-loop
+no-downlinks-requires-2 c κs = search needs
+
+returns-3 : tie.Need-returns-3 Inv-loop μ-loop
+returns-3 c =
+    rw (c .no-downlinks2 .ensures)
+    (answer downlinksAnswer
+    (inexact _ (filled-all downlinks (c .before .before .before .loop .inv) (c .before .before .loop-test .left) (c .before .before .before .before .before .pre)) (local-tail (entries-local downlinks-sound _)) (c .before .if1 .left)))
 
 pub read-downlinks-spec : {M : Type 1} → statement M
 read-downlinks-spec =
@@ -82,4 +99,7 @@ read-downlinks-spec =
     add-i
     loop-less
     loop-again
-    returns-2)
+    sub-if1
+    returns-2
+    no-downlinks-requires-2
+    returns-3)

@@ -1,6 +1,5 @@
 -- `elements::group_identity_downlink::read_downlinks_slot` meets its contract: by the laws of a slot, with the list's answer as it came.
 use mathlib.Core.Path.{refl, _∙_, ap}
-use mathlib.Core.Logic.{⊎-elim}
 use borrow.Author.Needs.{needs}
 use Rattle.bits.specs.PlacedTimes.{alike}
 use Rattle.bits.specs.PlacedLaws.{by, by-refusal, done}
@@ -11,7 +10,7 @@ use Rattle.elements.specs.Kinds.{row, ofDownlinks, isDownlinks, contentO
 use Rattle.elements.specs.Answers.{asOptionalU8}
 use Rattle.elements.specs.GroupAnswers.{downlinksAnswer, downlinksSlot}
 use Rattle.elements.specs.Verdicts.{answer}
-use Rattle.elements.specs.PlacedTable.{slot-outside, slot-ends, slot-other}
+use Rattle.elements.specs.PlacedTable.{slot-outside, slot-absent}
 use Rattle.elements.proofs.group_identity_downlink.read_downlinks_slot.Statement.{statement}
 use Rattle.elements.proofs.group_identity_downlink.read_downlinks_slot.Tie as tie
 
@@ -44,8 +43,8 @@ returns-2 : tie.Need-returns-2
 unfolding downlinksSlot contentOf
 returns-2 c =
     c .parse-downlinks .ensures ∙ answer downlinksAnswer
-    (row-there (c .before .before .before .before .before .before .before .before .before .args .identifier) ofDownlinks (list downlinks) isDownlinks (λ e. e .downlinks) refl
-    (by (c .before .before .before .before .before .before .before .peek-type34-mbit-and-id .ensures) (ap asOptionalU8 (c .before .before .before .before .before .l .given .1))) (c .before .before .before .if1 .taken) (c .before .if2 .taken)
+    (row-there ofDownlinks (list downlinks) isDownlinks (λ e. e .downlinks) refl
+    (record { head = c .before .before .before .before .before .l .given .0 .0; opens = by (c .before .before .before .before .before .before .before .peek-type34-mbit-and-id .ensures) (ap asOptionalU8 (c .before .before .before .before .before .l .given .1)); present = c .before .before .before .if1 .taken; is = c .before .if2 .taken })
     (alike (sized (list downlinks)) (sized-kept (list downlinks) _) (by refl refl)))
 
 no-downlinks-requires-2 : tie.Need-no-downlinks-requires-2
@@ -54,12 +53,10 @@ no-downlinks-requires-2 c κs = search needs
 returns-3 : tie.Need-returns-3
 unfolding downlinksSlot
 returns-3 c =
-    let e = by (c .before .before .before .before .before .peek-type34-mbit-and-id .ensures) (ap asOptionalU8 (c .before .before .before .l .given .1)) in
     rw (c .no-downlinks2 .ensures)
-    (answer downlinksAnswer (⊎-elim
-    (λ w. slot-other identifierOf content (row (c .before .before .before .before .before .before .before .args .identifier) ofDownlinks) _ e (w .0 .taken) (w .2 .left) done)
-    (λ w. slot-ends identifierOf content (row (c .before .before .before .before .before .before .before .args .identifier) ofDownlinks) _ e (w .left) done)
-    (c .before .if1 .came)))
+    (answer downlinksAnswer (slot-absent identifierOf content (row (c .before .before .before .before .before .before .before .args .identifier) ofDownlinks) _
+    (by (c .before .before .before .before .before .peek-type34-mbit-and-id .ensures) (ap asOptionalU8 (c .before .before .before .l .given .1)))
+    (c .before .if1 .came) (λ w. (w .0 .taken, w .2 .left)) (λ w. w .left) done))
 
 pub read-downlinks-slot-spec : {M : Type 1} → statement M
 read-downlinks-slot-spec =

@@ -1,9 +1,10 @@
 -- `elements::group_identity_location_demand::read_list` meets its contract: by the laws of a list inside a structure.
 use mathlib.Core.Path.{ap}
 use borrow.Author.Needs.{needs}
-use Rattle.bits.specs.Reader.{word}
-use Rattle.bits.specs.Placed.{asField8, asMoved}
-use Rattle.bits.specs.PlacedLaws.{by, by-refusal, stop}
+use Rattle.bits.specs.Reader.{field, word}
+use Rattle.bits.specs.Placed.{placed, asField8, asMoved}
+use Rattle.bits.specs.PlacedLaws.{Gives, by, by-refusal, stop}
+use Rattle.elements.specs.Numbers.{flagWidth}
 use Rattle.elements.specs.ListsLaws.{uplinks-sound}
 use Rattle.elements.specs.Locations.{nested, groupIdentityUplink}
 use Rattle.elements.specs.GroupAnswers.{uplinksAnswer}
@@ -11,6 +12,12 @@ use Rattle.elements.specs.Verdicts.{answer, returned, uplinks-beside, ve
 use Rattle.elements.specs.PlacedLocations.{no-list, list-refused, list-unclosed, list-closed}
 use Rattle.elements.proofs.group_identity_location_demand.read_list.Statement.{statement}
 use Rattle.elements.proofs.group_identity_location_demand.read_list.Tie as tie
+
+-- the O-bit
+announced : (c : tie.After-o) → let a = c .before .before .before .before .args in
+    Gives (field flagWidth) (a .octets .now) (a .c) (placed (c .o .given .0 .0) (c .o .given .0 .1 .0))
+unfolding word
+announced c = by (c .before .before .read-u8 .ensures) (ap asField8 (c .o .given .1))
 
 read-u8-requires : tie.Need-read-u8-requires
 read-u8-requires c κs = search needs
@@ -47,7 +54,7 @@ unfolding word
 returns-2 c =
     let g = verdict-refused uplinks-beside (c .before .before .read-list-slot .ensures) (c .enum-told2 .given .1) in
     returned uplinksAnswer (c .before .before .read-list-slot .ensures) g
-    (list-refused uplinks-sound groupIdentityUplink (by (c .before .before .before .before .before .before .before .read-u8 .ensures) (ap asField8 (c .before .before .before .before .before .o .given .1))) (c .before .before .before .if1 .taken) g)
+    (list-refused uplinks-sound groupIdentityUplink (announced (c .before .before .before .before .before)) (c .before .before .before .if1 .taken) g)
 
 read-closing-mbit-requires : tie.Need-read-closing-mbit-requires
 read-closing-mbit-requires c κs = search needs
@@ -66,7 +73,7 @@ unfolding word
 returns-3 c =
     rw (c .before .enum-told3 .given .1, c .no-uplinks2 .ensures)
     (answer uplinksAnswer
-    (list-unclosed uplinks-sound groupIdentityUplink (by (c .before .before .before .before .before .before .before .before .before .before .before .before .read-u8 .ensures) (ap asField8 (c .before .before .before .before .before .before .before .before .before .before .o .given .1))) (c .before .before .before .before .before .before .before .before .if1 .taken)
+    (list-unclosed uplinks-sound groupIdentityUplink (announced (c .before .before .before .before .before .before .before .before .before .before)) (c .before .before .before .before .before .before .before .before .if1 .taken)
     (verdict-to uplinks-beside (c .before .before .before .before .before .before .before .read-list-slot .ensures) (c .before .before .before .before .before .v .given .1))
     (by (c .before .before .before .read-closing-mbit .ensures) (ap asMoved (c .before .enum-told3 .given .1)))))
 
@@ -74,7 +81,7 @@ returns-4 : tie.Need-returns-4
 unfolding word
 returns-4 c =
     answer uplinksAnswer
-    (list-closed uplinks-sound groupIdentityUplink (by (c .before .before .before .before .before .before .before .before .before .before .before .before .before .read-u8 .ensures) (ap asField8 (c .before .before .before .before .before .before .before .before .before .before .before .o .given .1))) (c .before .before .before .before .before .before .before .before .before .if1 .taken)
+    (list-closed uplinks-sound groupIdentityUplink (announced (c .before .before .before .before .before .before .before .before .before .before .before)) (c .before .before .before .before .before .before .before .before .before .if1 .taken)
     (verdict-to uplinks-beside (c .before .before .before .before .before .before .before .before .read-list-slot .ensures) (c .before .before .before .before .before .before .v .given .1))
     (by (c .before .before .before .before .read-closing-mbit .ensures) (ap asMoved (c .before .before .m .given .1))))
 
@@ -85,7 +92,7 @@ returns-5 : tie.Need-returns-5
 unfolding word
 returns-5 c =
     rw (c .no-uplinks3 .ensures)
-    (answer uplinksAnswer (no-list uplinks-sound groupIdentityUplink (by (c .before .before .before .before .before .read-u8 .ensures) (ap asField8 (c .before .before .before .o .given .1))) (c .before .if1 .left)))
+    (answer uplinksAnswer (no-list uplinks-sound groupIdentityUplink (announced (c .before .before .before)) (c .before .if1 .left)))
 
 pub read-list-spec : {M : Type 1} → statement M
 read-list-spec =

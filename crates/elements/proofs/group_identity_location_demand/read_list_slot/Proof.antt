@@ -1,6 +1,5 @@
 -- `elements::group_identity_location_demand::read_list_slot` meets its contract: by the laws of a slot, with the list's answer as it came.
 use mathlib.Core.Path.{refl, _∙_, ap}
-use mathlib.Core.Logic.{⊎-elim}
 use borrow.Author.Needs.{needs}
 use Rattle.bits.specs.PlacedTimes.{alike}
 use Rattle.bits.specs.PlacedLaws.{by, by-refusal, done}
@@ -10,7 +9,7 @@ use Rattle.elements.specs.Locations.{groupIdentityUplink}
 use Rattle.elements.specs.Answers.{asOptionalU8}
 use Rattle.elements.specs.GroupAnswers.{uplinksAnswer, nestedSlot}
 use Rattle.elements.specs.Verdicts.{answer}
-use Rattle.elements.specs.PlacedTable.{slot-outside, slot-ends, slot-other, slot-there}
+use Rattle.elements.specs.PlacedTable.{slot-outside, slot-absent, slot-there}
 use Rattle.elements.specs.PlacedLocations.{kept}
 use Rattle.elements.proofs.group_identity_location_demand.read_list_slot.Statement.{statement}
 use Rattle.elements.proofs.group_identity_location_demand.read_list_slot.Tie as tie
@@ -54,12 +53,10 @@ no-uplinks-requires-2 c κs = search needs
 returns-3 : tie.Need-returns-3
 unfolding nestedSlot
 returns-3 c =
-    let e = by (c .before .before .before .before .before .peek-type34-mbit-and-id .ensures) (ap asOptionalU8 (c .before .before .before .l .given .1)) in
     rw (c .no-uplinks2 .ensures)
-    (answer uplinksAnswer (⊎-elim
-    (λ w. slot-other (λ i. i) (λ i. list uplinks) groupIdentityUplink _ e (w .0 .taken) (w .2 .left) done)
-    (λ w. slot-ends (λ i. i) (λ i. list uplinks) groupIdentityUplink _ e (w .left) done)
-    (c .before .if1 .came)))
+    (answer uplinksAnswer (slot-absent (λ i. i) (λ i. list uplinks) groupIdentityUplink _
+    (by (c .before .before .before .before .before .peek-type34-mbit-and-id .ensures) (ap asOptionalU8 (c .before .before .before .l .given .1)))
+    (c .before .if1 .came) (λ w. (w .0 .taken, w .2 .left)) (λ w. w .left) done))
 
 pub read-list-slot-spec : {M : Type 1} → statement M
 read-list-slot-spec =

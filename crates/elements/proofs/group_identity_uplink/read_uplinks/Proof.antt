@@ -2,21 +2,24 @@
 -- front of the array, and that what is left to read is what was asked for.
 use borrow.Author.Needs.{needs}
 use Prim.Native.Nat.{_-_}
-use mathlib.Core.Path.{ap, sym}
+use mathlib.Core.Path.{ap}
 use Rattle.bits.specs.ReaderLaws.{local-tail}
-use Rattle.bits.specs.PlacedLaws.{by, by-refusal}
+use Rattle.bits.specs.PlacedLaws.{by, by-refusal, told}
+use Rattle.bits.specs.PlacedTimes.{exact, inexact, exact-stop}
 use Rattle.elements.specs.GroupsLaws.{uplink-local}
 use Rattle.elements.specs.Lists.{uplinks}
+use Rattle.elements.specs.ListsLaws.{uplinks-sound, entries-local}
+use Rattle.elements.specs.Verdicts.{answer}
 use Rattle.elements.specs.GroupAnswers.{asUplink, uplinksAnswer}
 use Rattle.elements.specs.PlacedLists.{Filled, filled-none, filled-more, filled-not, filled-all}
 use Rattle.elements.proofs.group_identity_uplink.read_uplinks.Statement.{statement}
 use Rattle.elements.proofs.group_identity_uplink.read_uplinks.Tie as tie
 
 abbrev Inv-loop : tie.InvT-loop
-Inv-loop octets count groups₀ place₀ i₀ groups place i = Filled uplinks octets count place₀ groups place i
+Inv-loop c octets count len groups₀ place₀ i₀ groups place i = Filled uplinks octets count c groups place i
 
 abbrev μ-loop : tie.MeasureT-loop
-μ-loop octets count groups₀ place₀ i₀ groups place i = count - i
+μ-loop c octets count len groups₀ place₀ i₀ groups place i = count - i
 
 loop-holds : tie.Need-loop-holds Inv-loop μ-loop
 loop-holds c = filled-none uplinks
@@ -39,8 +42,8 @@ no-uplinks-requires c κs = search needs
 returns : tie.Need-returns Inv-loop μ-loop
 returns c =
     rw (c .no-uplinks .ensures)
-    (ap uplinksAnswer
-    (sym (filled-not uplinks (c .before .before .before .before .before .before .loop .inv) (c .before .before .before .before .before .loop-test .taken)
+    (answer uplinksAnswer
+    (exact-stop _ (filled-not uplinks (c .before .before .before .before .before .before .loop .inv) (c .before .before .before .before .before .loop-test .taken)
     (by-refusal (c .before .before .before .before .from-bitbuf .ensures) (ap asUplink (c .before .before .enum-told .given .1)) (c .before .refusal .ensures)))))
 
 mul-groups : tie.Need-mul-groups Inv-loop μ-loop
@@ -60,9 +63,23 @@ loop-again c =
     filled-more uplinks (c .before .before .before .before .before .loop .inv) (c .before .before .before .before .loop-test .taken) (c .before .before .before .before .before .before .before .pre) (local-tail uplink-local)
     (by (c .before .before .before .from-bitbuf .ensures) (ap asUplink (c .before .f .given .1)))
 
+sub-if1 : tie.Need-sub-if1 Inv-loop μ-loop
+sub-if1 c =
+    told (local-tail (entries-local uplinks-sound _)) (filled-all uplinks (c .before .loop .inv) (c .loop-test .left) (c .before .before .before .pre)) .on
+
 returns-2 : tie.Need-returns-2 Inv-loop μ-loop
 returns-2 c =
-    ap uplinksAnswer (sym (filled-all uplinks (c .before .loop .inv) (c .loop-test .left) (c .before .before .before .pre)))
+    answer uplinksAnswer
+    (exact _ (filled-all uplinks (c .before .before .loop .inv) (c .before .loop-test .left) (c .before .before .before .before .pre)) (local-tail (entries-local uplinks-sound _)) (c .if1 .taken))
+
+no-uplinks-requires-2 : tie.Need-no-uplinks-requires-2 Inv-loop μ-loop
+no-uplinks-requires-2 c κs = search needs
+
+returns-3 : tie.Need-returns-3 Inv-loop μ-loop
+returns-3 c =
+    rw (c .no-uplinks2 .ensures)
+    (answer uplinksAnswer
+    (inexact _ (filled-all uplinks (c .before .before .before .loop .inv) (c .before .before .loop-test .left) (c .before .before .before .before .before .pre)) (local-tail (entries-local uplinks-sound _)) (c .before .if1 .left)))
 
 pub read-uplinks-spec : {M : Type 1} → statement M
 read-uplinks-spec =
@@ -82,4 +99,7 @@ read-uplinks-spec =
     add-i
     loop-less
     loop-again
-    returns-2)
+    sub-if1
+    returns-2
+    no-uplinks-requires-2
+    returns-3)

@@ -1,19 +1,50 @@
 -- `elements::typed_pdu_fields::parse_type4_generic` meets its contract. Assumes nothing.
+use Prim.Native.Nat.{ℕ}
 use mathlib.Core.Path.{ap}
-use borrow.Author.Tests.{le-leb, lt-leb}
+use mathlib.Core.Bool.{true}
+use mathlib.Core.List.{List}
 use borrow.Author.Needs.{needs}
-use Rattle.bits.specs.PduParseError.{type4Underflow}
-use Rattle.bits.specs.Reader.{word}
+use Rattle.bits.specs.Reader.{Reader, got, _>>=_, field, word}
 use Rattle.bits.specs.ReaderLaws.{local·rules}
-use Rattle.bits.specs.Placed.{asField, asField8, asField32}
-use Rattle.bits.specs.PlacedLaws.{by, by-refusal, step, stop, done}
-use Rattle.bits.specs.PlacedTimes.{passed, failed}
-use Rattle.elements.specs.Generics.{type4}
+use Rattle.bits.specs.Placed.{Placed, placed, asField, asField8, asField32}
+use Rattle.bits.specs.PlacedLaws.{Gives, by, by-refusal, step, stop, done}
+use Rattle.bits.specs.PlacedTimes.{alike}
+use Rattle.bits.specs.declared.bitbuffer.Cursor.{Cursor}
+use Rattle.elements.specs.Table.{lengthWidth}
+use Rattle.elements.specs.Generics.{entriesWidth, entries, kept, type4}
 use Rattle.elements.specs.GenericsLaws.{kept-local}
+use Rattle.elements.specs.Rows.{sized, fromType4, genericType4At}
+use Rattle.elements.specs.PlacedLists.{entries-unnumbered, entries-underflow, entries-there, entries-made}
 use Rattle.elements.specs.Answers.{genericAnswer}
 use Rattle.elements.specs.Verdicts.{answer}
+use Rattle.elements.specs.declared.typed_pdu_fields.Generic.{Generic}
+use Rattle.elements.specs.declared.typed_pdu_fields.Type4FieldGeneric.{Type4FieldGeneric}
 use Rattle.elements.proofs.typed_pdu_fields.parse_type4_generic.Statement.{statement}
 use Rattle.elements.proofs.typed_pdu_fields.parse_type4_generic.Tie as tie
+
+-- behind the number of entries m: n bits of data
+abbrev dataOf : ℕ → ℕ → Reader Type4FieldGeneric
+dataOf m n = kept n >>= λ d. got (record { len = n; elems = m; «data» = d })
+
+abbrev held : ℕ → ℕ → Reader Generic
+held m n = dataOf m n >>= λ g. got (fromType4 (record { present = true; value = g }))
+
+counted : {os : List ℕ} {c : Cursor} {x : Placed Generic} → Gives (sized (entries held)) os c x → Gives (sized genericType4At) os c x
+unfolding type4
+counted g = alike _ (entries-made dataOf _ _) g
+
+-- what the calls read
+size : (c : tie.After-f) → let a = c .before .before .before .before .args in
+    Gives (field lengthWidth)
+    (a .octets .now) (a .c) (placed (c .f .given .0 .0) (c .f .given .0 .1 .0))
+unfolding word
+size c = by (c .before .before .read-u32 .ensures) (ap asField32 (c .f .given .1))
+
+number : (c : tie.After-k) → let a = c .before .before .before .before .before .before .before .before .args in
+    Gives (field entriesWidth)
+    (a .octets .now) (c .before .before .before .before .f .given .0 .1 .0) (placed (c .k .given .0 .0) (c .k .given .0 .1 .0))
+unfolding word
+number c = by (c .before .before .read-u8 .ensures) (ap asField8 (c .k .given .1))
 
 read-u32-requires : tie.Need-read-u32-requires
 read-u32-requires c κs = search needs
@@ -47,18 +78,16 @@ refusal-requires-2 c κs = search needs
 returns-2 : tie.Need-returns-2
 unfolding type4 word
 returns-2 c =
-    answer genericAnswer
-    (step _ (by (c .before .before .before .before .before .before .before .read-u32 .ensures) (ap asField32 (c .before .before .before .before .before .f .given .1))) (search local·rules)
-    (stop _ (stop _ (by-refusal (c .before .before .before .read-u8 .ensures) (ap asField8 (c .before .enum-told2 .given .1)) (c .refusal2 .ensures)))))
+    answer genericAnswer (counted (entries-unnumbered held
+    (size (c .before .before .before .before .before))
+    (by-refusal (c .before .before .before .read-u8 .ensures) (ap asField8 (c .before .enum-told2 .given .1)) (c .refusal2 .ensures))))
 
 returns-3 : tie.Need-returns-3
 unfolding type4 word
 returns-3 c =
-    answer genericAnswer
-    (step _ (by (c .before .before .before .before .before .before .before .before .read-u32 .ensures) (ap asField32 (c .before .before .before .before .before .before .f .given .1))) (search local·rules)
-    (stop _
-    (step _ (by (c .before .before .before .before .read-u8 .ensures) (ap asField8 (c .before .before .k .given .1))) (search local·rules)
-    (stop _ (failed type4Underflow (lt-leb _ _ (c .if1 .taken)))))))
+    answer genericAnswer (counted (entries-underflow held
+    (size (c .before .before .before .before .before .before))
+    (number (c .before .before)) (c .if1 .taken)))
 
 cast-read-kept : tie.Need-cast-read-kept
 cast-read-kept c = search needs
@@ -78,23 +107,18 @@ refusal-requires-3 c κs = search needs
 returns-4 : tie.Need-returns-4
 unfolding type4 word
 returns-4 c =
-    answer genericAnswer
-    (step _ (by (c .before .before .before .before .before .before .before .before .before .before .before .before .read-u32 .ensures) (ap asField32 (c .before .before .before .before .before .before .before .before .before .before .f .given .1))) (search local·rules)
-    (stop _
-    (step _ (by (c .before .before .before .before .before .before .before .before .read-u8 .ensures) (ap asField8 (c .before .before .before .before .before .before .k .given .1))) (search local·rules)
-    (step _ (passed type4Underflow (le-leb _ _ (c .before .before .before .before .if1 .left))) (search local·rules)
-    (stop _ (by-refusal (c .before .before .before .read-kept .ensures) (ap asField (c .before .enum-told3 .given .1)) (c .refusal3 .ensures)))))))
+    answer genericAnswer (counted (entries-there held
+    (size (c .before .before .before .before .before .before .before .before .before .before))
+    (number (c .before .before .before .before .before .before)) (c .before .before .before .before .if1 .left)
+    (stop _ (stop _ (by-refusal (c .before .before .before .read-kept .ensures) (ap asField (c .before .enum-told3 .given .1)) (c .refusal3 .ensures))))))
 
 returns-5 : tie.Need-returns-5
 unfolding type4 word
 returns-5 c =
-    answer genericAnswer
-    (step _ (by (c .before .before .before .before .before .before .before .before .before .before .before .before .read-u32 .ensures) (ap asField32 (c .before .before .before .before .before .before .before .before .before .before .f .given .1))) (search local·rules)
-    (step _
-    (step _ (by (c .before .before .before .before .before .before .before .before .read-u8 .ensures) (ap asField8 (c .before .before .before .before .before .before .k .given .1))) (search local·rules)
-    (step _ (passed type4Underflow (le-leb _ _ (c .before .before .before .before .if1 .left))) (search local·rules)
-    (step _ (by (c .before .before .before .read-kept .ensures) (ap asField (c .before .d .given .1))) (search (local·rules, kept-local)) done)))
-    (search (local·rules, kept-local) depth 8) done))
+    answer genericAnswer (counted (entries-there held
+    (size (c .before .before .before .before .before .before .before .before .before .before))
+    (number (c .before .before .before .before .before .before)) (c .before .before .before .before .if1 .left)
+    (step _ (step _ (by (c .before .before .before .read-kept .ensures) (ap asField (c .before .d .given .1))) (search (local·rules, kept-local)) done) (search (local·rules, kept-local)) done)))
 
 pub parse-type4-generic-spec : {M : Type 1} → statement M
 parse-type4-generic-spec =

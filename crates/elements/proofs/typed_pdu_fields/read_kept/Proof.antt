@@ -3,15 +3,17 @@ use Prim.Native.Nat.{ℕ, _-_, min}
 use native.Mathlib.Omega.{arith}
 use mathlib.Core.Path.{_≡_, ap}
 use mathlib.Core.Bool.{true}
+use mathlib.Core.List.{List}
 use borrow.Author.Tests.{le-leb}
 use borrow.Author.Needs.{needs}
 use lib.Dec.{leb}
 use Rattle.bits.specs.Bits.{Bits}
 use Rattle.bits.specs.Reader.{got, _>>=_, word, pass}
 use Rattle.bits.specs.ReaderLaws.{local·rules}
-use Rattle.bits.specs.Placed.{asField, asMoved}
-use Rattle.bits.specs.PlacedLaws.{so, by, by-refusal, step, stop, done}
+use Rattle.bits.specs.Placed.{Placed, placed, asField, asMoved}
+use Rattle.bits.specs.PlacedLaws.{Gives, so, by, by-refusal, step, stop, done}
 use Rattle.bits.specs.PlacedTimes.{alike}
+use Rattle.bits.specs.declared.bitbuffer.Cursor.{Cursor}
 use Rattle.elements.specs.Generics.{dataWidth, kept}
 use Rattle.elements.proofs.typed_pdu_fields.read_kept.Statement.{statement}
 use Rattle.elements.proofs.typed_pdu_fields.read_kept.Tie as tie
@@ -23,6 +25,11 @@ kept-is n w e bs =
     let enough : leb w dataWidth ≡ true = le-leb w dataWidth (omega arith) in
     let less : n - w ≡ n - dataWidth = omega arith in
     rw (enough, less, e)
+
+-- the first bits are read
+behind-data : (n w : ℕ) → w ≡ min n dataWidth → {os : List ℕ} {c : Cursor} {d : ℕ} {k : Cursor} → Gives (word dataWidth w) os c (placed d k)
+    → {x : Placed ℕ} → Gives (pass (n - w) >>= λ z. got d) os k x → Gives (kept n) os c x
+behind-data n w e g h = alike _ (kept-is n w e _) (step _ g (search local·rules) h)
 
 at-most-64-requires : tie.Need-at-most-64-requires
 at-most-64-requires c κs = search needs
@@ -58,15 +65,13 @@ refusal-requires c κs = search needs
 
 returns-2 : tie.Need-returns-2
 returns-2 c =
-    so (alike _ (kept-is _ _ (c .before .before .before .before .before .before .before .before .at-most-64 .ensures) _)
-    (step _ (by (c .before .before .before .before .before .before .before .read .ensures) (ap asField (c .before .before .before .before .before .f .given .1))) (search local·rules)
-    (stop _ (by-refusal (c .before .before .before .pass .ensures) (ap asMoved (c .before .enum-told2 .given .1)) (c .refusal .ensures)))))
+    so (behind-data _ _ (c .before .before .before .before .before .before .before .before .at-most-64 .ensures) (by (c .before .before .before .before .before .before .before .read .ensures) (ap asField (c .before .before .before .before .before .f .given .1)))
+    (stop _ (by-refusal (c .before .before .before .pass .ensures) (ap asMoved (c .before .enum-told2 .given .1)) (c .refusal .ensures))))
 
 returns-3 : tie.Need-returns-3
 returns-3 c =
-    so (alike _ (kept-is _ _ (c .before .before .before .before .before .before .before .before .at-most-64 .ensures) _)
-    (step _ (by (c .before .before .before .before .before .before .before .read .ensures) (ap asField (c .before .before .before .before .before .f .given .1))) (search local·rules)
-    (step _ (by (c .before .before .before .pass .ensures) (ap asMoved (c .before .p .given .1))) (search local·rules) done)))
+    so (behind-data _ _ (c .before .before .before .before .before .before .before .before .at-most-64 .ensures) (by (c .before .before .before .before .before .before .before .read .ensures) (ap asField (c .before .before .before .before .before .f .given .1)))
+    (step _ (by (c .before .before .before .pass .ensures) (ap asMoved (c .before .p .given .1))) (search local·rules) done))
 
 pub read-kept-spec : {M : Type 1} → statement M
 read-kept-spec =

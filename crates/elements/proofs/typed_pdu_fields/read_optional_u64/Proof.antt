@@ -3,7 +3,8 @@ use mathlib.Core.Path.{ap}
 use borrow.Author.Needs.{needs}
 use Rattle.bits.specs.ReaderLaws.{local·rules}
 use Rattle.bits.specs.Placed.{asField}
-use Rattle.bits.specs.PlacedLaws.{so, by, by-refusal, step, stop, done}
+use Rattle.bits.specs.PlacedLaws.{so, by, by-refusal}
+use Rattle.elements.specs.PlacedOptional.{wanted-refused, wanted-read, unwanted}
 use Rattle.elements.proofs.typed_pdu_fields.read_optional_u64.Statement.{statement}
 use Rattle.elements.proofs.typed_pdu_fields.read_optional_u64.Tie as tie
 
@@ -21,15 +22,14 @@ refusal-requires c κs = search needs
 
 returns : tie.Need-returns
 returns c =
-    rw (c .before .before .before .before .if1 .taken) (so (stop _ (by-refusal (c .before .before .before .read .ensures) (ap asField (c .before .enum-told .given .1)) (c .refusal .ensures))))
+    so (wanted-refused _ _ _ (c .before .before .before .before .if1 .taken) (by-refusal (c .before .before .before .read .ensures) (ap asField (c .before .enum-told .given .1)) (c .refusal .ensures)))
 
 returns-2 : tie.Need-returns-2
 returns-2 c =
-    rw (c .before .before .before .before .if1 .taken) (so (step _ (by (c .before .before .before .read .ensures) (ap asField (c .before .f .given .1))) (search local·rules) done))
+    so (wanted-read _ _ _ (c .before .before .before .before .if1 .taken) (search local·rules) (by (c .before .before .before .read .ensures) (ap asField (c .before .f .given .1))))
 
 returns-3 : tie.Need-returns-3
-returns-3 c =
-    rw (c .if1 .left) (so done)
+returns-3 c = so (unwanted _ _ _ (c .if1 .left))
 
 pub read-optional-u64-spec : {M : Type 1} → statement M
 read-optional-u64-spec =

@@ -1,41 +1,57 @@
 -- `elements::typed_pdu_fields::scan_part` meets its contract. The loop's invariant: the answer of all slots is that of those from `i` on, where `n`
 -- elements were skipped before, a bit at least for each, and the values so far stand in the array. The measure is what is left of the slots.
 -- Assumes nothing.
-use Prim.Native.Nat.{ℕ, _+_, _-_, _≤_}
+use Prim.Native.Nat.{_+_, _-_, _≤_}
 use native.Mathlib.Omega.{arith}
 use mathlib.Core.Path.{_≡_, refl, sym, _∙_, ap}
+use mathlib.Core.List.{_∷_}
 use borrow.Author.Needs.{needs}
-use lib.ListN.{length, length-map}
-use Rattle.bits.specs.Placed.{at}
-use Rattle.bits.specs.PlacedLaws.{by, by-refusal, told, step, stop, done}
+use lib.ListN.{length, length-map, getD}
+use Rattle.bits.specs.Placed.{at, placed}
+use Rattle.bits.specs.PlacedLaws.{Gives, by, by-refusal, told}
 use Rattle.bits.specs.PlacedTimes.{alike}
-use Rattle.elements.specs.Verdicts.{answer, scan-to, scan-refused, verdict-to, verdict-refused, generic-beside}
-use Rattle.elements.specs.PlacedTable.{skip-most, generic-slot-tail, resumed, resumed-start, resumed-end, resumed-unskipped, resumed-broken, resumed-on}
+use Rattle.elements.specs.Verdicts.{answer, verdict-to, verdict-refused, generic-beside}
+use Rattle.elements.specs.PlacedTable.{skip-most, generic-slot-tail, filled, resumed, resumed-start, resumed-end, resumed-unskipped, resumed-broken, resumed-on}
 use Rattle.elements.specs.Table.{isListed}
 use Rattle.elements.specs.Kinds.{identifierOf, content}
 use Rattle.elements.specs.KindsLaws.{content-local}
-use Rattle.elements.specs.Rows.{rowsOf, slotsFrom, generics, part}
-use Rattle.elements.specs.Parts.{generics-tail, behind-tail, behind-most}
-use Rattle.elements.specs.Answers.{asSkipped, scanAnswer, slotsAnswer}
-use Rattle.bits.specs.declared.bitbuffer.Moved.{Moved}
-use Rattle.elements.specs.declared.typed_pdu_fields.Slots.{Slots}
-use Rattle.elements.specs.declared.typed_pdu_fields.ScanRead.{ScanRead}
-use Rattle.elements.proofs.Tables.{slots-cons, slots-none}
+use Rattle.elements.specs.Rows.{rowsOf, slotsFrom}
+use Rattle.elements.specs.Parts.{behind-most, no-slots, no-behind, part-read}
+use Rattle.elements.specs.Answers.{asSkipped, slotsAnswer}
+use Rattle.elements.proofs.Tables.{noRow, slots-cons, slots-none}
 use Rattle.elements.proofs.typed_pdu_fields.scan_part.Statement.{statement}
 use Rattle.elements.proofs.typed_pdu_fields.scan_part.Tie as tie
-
--- the answer with those skipped behind the slots
-abbrev further : Moved → ℕ → Slots → ScanRead
-further v k s = record { verdict = v; slots = record { skipped = s .skipped + k; generics = s .generics } }
 
 abbrev Inv-loop : tie.InvT-loop
 Inv-loop octets from to last wanted table gs₀ place₀ n₀ i₀ end gs place n i =
     (n ≤ place .at)
-    × (scanAnswer gs₀ from (at (generics (rowsOf table) (slotsFrom table from to) wanted) octets place₀)
-    ≡ scanAnswer gs i (at (resumed (rowsOf table) wanted n (slotsFrom table i to)) octets place))
+    × (at (filled (rowsOf table) wanted gs₀ from (slotsFrom table from to)) octets place₀
+    ≡ at (resumed (rowsOf table) wanted gs i n (slotsFrom table i to)) octets place)
 
 abbrev μ-loop : tie.MeasureT-loop
 μ-loop octets from to last wanted table gs₀ place₀ n₀ i₀ end gs place n i = end - i
+
+-- in the loop: the next slot
+next-slot : (c : tie.In-loop Inv-loop μ-loop)
+    → let a = c .before .before .before .before .args in
+    let i = c .before .loop .i in
+    slotsFrom (a .t3) i (a .to) ≡ getD (a .t3 .rows) i noRow ∷ slotsFrom (a .t3) (i + 1) (a .to)
+next-slot c =
+    let s = c .before .before .before .before in
+    let t = s .args .t3 in
+    let rows : length (t .rows) ≡ 8 = sym (length-map (t .rows) _) ∙ s .good .1 .1 .0 .1 .1 .1 .0 .1 .0 .1 in
+    slots-cons t (s .args .to) (c .before .loop .i) rows (omega arith)
+
+-- behind the loop: the slots are read
+all-slots : (c : tie.After-loop Inv-loop μ-loop)
+    → let a = c .before .before .before .before .args in
+    let l = c .before .loop in
+    Gives (filled (rowsOf (a .t3)) (a .wanted) (a .before) (a .from) (slotsFrom (a .t3) (a .from) (a .to))) (a .octets .now) (a .c)
+    (placed (record { skipped = l .n; generics = l .generics }) (l .place))
+all-slots c =
+    let a = c .before .before .before .before .args in
+    let l = c .before .loop in
+    by (sym (l .inv .1)) (resumed-end (rowsOf (a .t3)) (a .wanted) (l .generics) (l .i) (l .n) (slots-none (a .t3) (a .to) (l .i) (omega arith)) .eq)
 
 at-most-8-requires : tie.Need-at-most-8-requires Inv-loop μ-loop
 at-most-8-requires c κs = search needs
@@ -44,7 +60,7 @@ loop-holds : tie.Need-loop-holds Inv-loop μ-loop
 loop-holds c =
     let a = c .before .before .args in
     let t = a .t3 in
-    (search needs, ap (scanAnswer (a .before) (a .from)) (alike _ (resumed-start (rowsOf t) (a .wanted) (slotsFrom t (a .from) (a .to)) _) (by refl refl) .eq))
+    (search needs, alike _ (resumed-start (rowsOf t) (a .wanted) (a .before) (a .from) (slotsFrom t (a .from) (a .to)) _) (by refl refl) .eq)
 
 skip-if-requires : tie.Need-skip-if-requires Inv-loop μ-loop
 skip-if-requires c κs = search needs
@@ -59,15 +75,10 @@ refusal-requires : tie.Need-refusal-requires Inv-loop μ-loop
 refusal-requires c κs = search needs
 
 returns : tie.Need-returns Inv-loop μ-loop
-unfolding part
 returns c =
-    let l = c .before .before .before .before .before .loop in
-    let a = c .before .before .before .before .before .before .before .before .args in
-    let t = a .t3 in
-    let rows : length (t .rows) ≡ 8 = sym (length-map (t .rows) _) ∙ c .before .before .before .before .before .before .before .before .good .1 .1 .0 .1 .1 .1 .0 .1 .0 .1 in
-    let g = scan-refused _ _ (sym (l .inv .1 ∙ ap (scanAnswer (l .generics) (l .i)) (resumed-unskipped (rowsOf t) (a .wanted) (l .n) (slots-cons t (a .to) (l .i) rows (omega arith))
-    (by-refusal (c .before .before .before .skip-if .ensures) (ap asSkipped (c .before .enum-told .given .1)) (c .refusal .ensures)) .eq))) refl in
-    answer slotsAnswer (stop _ g)
+    let l = c .before .before .before .before in
+    answer slotsAnswer (no-slots _ _ _ _ _ _ (by (sym (l .before .loop .inv .1)) (resumed-unskipped _ _ _ _ _ (next-slot l)
+    (by-refusal (c .before .before .before .skip-if .ensures) (ap asSkipped (c .before .enum-told .given .1)) (c .refusal .ensures)) .eq)))
 
 mul-row : tie.Need-mul-row Inv-loop μ-loop
 mul-row c = search needs
@@ -85,15 +96,10 @@ enum-told-2 : tie.Need-enum-told-2 Inv-loop μ-loop
 enum-told-2 c = search needs
 
 returns-2 : tie.Need-returns-2 Inv-loop μ-loop
-unfolding part
 returns-2 c =
-    let l = c .before .before .before .before .before .before .before .before .before .loop in
-    let a = c .before .before .before .before .before .before .before .before .before .before .before .before .args in
-    let t = a .t3 in
-    let rows : length (t .rows) ≡ 8 = sym (length-map (t .rows) _) ∙ c .before .before .before .before .before .before .before .before .before .before .before .before .good .1 .1 .0 .1 .1 .1 .0 .1 .0 .1 in
-    let g = scan-refused _ _ (sym (l .inv .1 ∙ ap (scanAnswer (l .generics) (l .i)) (resumed-broken (rowsOf t) (a .wanted) (l .n) (slots-cons t (a .to) (l .i) rows (omega arith))
-    (by (c .before .before .before .before .before .before .before .skip-if .ensures) (ap asSkipped (c .before .before .before .before .before .s .given .1))) (verdict-refused generic-beside (c .before .before .read-generic-slot .ensures) (c .enum-told2 .given .1)) .eq))) refl in
-    rw (c .enum-told2 .given .1) (answer slotsAnswer (stop _ g))
+    let l = c .before .before .before .before .before .before .before .before in
+    rw (c .enum-told2 .given .1) (answer slotsAnswer (no-slots _ _ _ _ _ _ (by (sym (l .before .loop .inv .1)) (resumed-broken _ _ _ _ _ (next-slot l)
+    (by (c .before .before .before .before .before .before .before .skip-if .ensures) (ap asSkipped (c .before .before .before .before .before .s .given .1))) (verdict-refused generic-beside (c .before .before .read-generic-slot .ensures) (c .enum-told2 .given .1)) .eq))))
 
 mul-generics : tie.Need-mul-generics Inv-loop μ-loop
 mul-generics c = search needs
@@ -115,15 +121,14 @@ loop-less c = search needs
 
 loop-again : tie.Need-loop-again Inv-loop μ-loop
 loop-again c =
-    let l = c .before .before .before .before .before .before .before .before .before .before .before .loop in
-    let a = c .before .before .before .before .before .before .before .before .before .before .before .before .before .before .args in
-    let t = a .t3 in
-    let rows : length (t .rows) ≡ 8 = sym (length-map (t .rows) _) ∙ c .before .before .before .before .before .before .before .before .before .before .before .before .before .before .good .1 .1 .0 .1 .1 .1 .0 .1 .0 .1 in
-    let s = (by (c .before .before .before .before .before .before .before .before .before .skip-if .ensures) (ap asSkipped (c .before .before .before .before .before .before .before .s .given .1))) in
+    let p = c .before .before .before .before .before .before .before .before .before .before in
+    let a = p .before .before .before .before .args in
+    let l = p .before .loop in
+    let s = by (c .before .before .before .before .before .before .before .before .before .skip-if .ensures) (ap asSkipped (c .before .before .before .before .before .before .before .s .given .1)) in
     let g = verdict-to generic-beside (c .before .before .before .before .read-generic-slot .ensures) (c .before .before .v .given .1) in
-    let m = skip-most identifierOf content content-local (isListed identifierOf (rowsOf t)) (a .wanted) s in
+    let m = skip-most identifierOf content content-local (isListed identifierOf (rowsOf (a .t3))) (a .wanted) s in
     let o = told (generic-slot-tail _) g .on in
-    (omega arith, l .inv .1 ∙ resumed-on (rowsOf t) (a .wanted) (l .n) (slots-cons t (a .to) (l .i) rows (omega arith)) s (l .generics) (l .i) g)
+    (omega arith, l .inv .1 ∙ resumed-on (rowsOf (a .t3)) (a .wanted) (l .generics) (l .i) (l .n) (next-slot p) s g)
 
 read-behind-requires : tie.Need-read-behind-requires Inv-loop μ-loop
 read-behind-requires c κs = search needs
@@ -138,13 +143,9 @@ refusal-requires-2 : tie.Need-refusal-requires-2 Inv-loop μ-loop
 refusal-requires-2 c κs = search needs
 
 returns-3 : tie.Need-returns-3 Inv-loop μ-loop
-unfolding part
 returns-3 c =
-    let l = c .before .before .before .before .before .loop in
-    let a = c .before .before .before .before .before .before .before .before .args in
-    let t = a .t3 in
-    scan-to _ _ (sym (l .inv .1 ∙ ap (scanAnswer (l .generics) (l .i)) (resumed-end (rowsOf t) (a .wanted) (l .n) (slots-none t (a .to) (l .i) (omega arith)) .eq))) refl (λ x e g.
-    answer slotsAnswer (step _ g (generics-tail (rowsOf t) (a .wanted) _) (stop _ (by-refusal (c .before .before .before .read-behind .ensures) (ap asSkipped (c .before .enum-told3 .given .1)) (c .refusal2 .ensures)))))
+    answer slotsAnswer (no-behind _ _ _ _ _ _ (all-slots (c .before .before .before .before))
+    (by-refusal (c .before .before .before .read-behind .ensures) (ap asSkipped (c .before .enum-told3 .given .1)) (c .refusal2 .ensures)))
 
 add-t49 : tie.Need-add-t49 Inv-loop μ-loop
 add-t49 c =
@@ -153,13 +154,9 @@ add-t49 c =
     omega (arith, c .before .before .before .before .before .loop .inv .0, c .known-told3 .given)
 
 returns-4 : tie.Need-returns-4 Inv-loop μ-loop
-unfolding part
 returns-4 c =
-    let l = c .before .before .before .before .before .loop in
-    let a = c .before .before .before .before .before .before .before .before .args in
-    let t = a .t3 in
-    scan-to _ _ (sym (l .inv .1 ∙ ap (scanAnswer (l .generics) (l .i)) (resumed-end (rowsOf t) (a .wanted) (l .n) (slots-none t (a .to) (l .i) (omega arith)) .eq))) refl (λ x e g.
-    ap (further _ _) e ∙ answer slotsAnswer (step _ g (generics-tail (rowsOf t) (a .wanted) _) (step _ (by (c .before .before .before .read-behind .ensures) (ap asSkipped (c .before .b .given .1))) (behind-tail (rowsOf t) (a .wanted) (a .last)) done)))
+    answer slotsAnswer (part-read _ _ _ _ _ _ (all-slots (c .before .before .before .before))
+    (by (c .before .before .before .read-behind .ensures) (ap asSkipped (c .before .b .given .1))))
 
 pub scan-part-spec : {M : Type 1} → statement M
 scan-part-spec =

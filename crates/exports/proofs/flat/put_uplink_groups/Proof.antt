@@ -4,8 +4,9 @@ use native.Mathlib.Omega.{arith}
 use mathlib.Core.Path.{_≡_}
 use lib.ListN.{take}
 use borrow.Author.Needs.{needs}
+use Rattle.elements.specs.EachLaws.{take-most}
 use Rattle.exports.specs.Flat.{flatEach, flatUplink}
-use Rattle.exports.specs.FlatLaws.{Put, none-put, one-put, all-put, take-most}
+use Rattle.exports.specs.FlatLaws.{Put, none-put, one-put, all-put}
 use Rattle.exports.proofs.flat.put_uplink_groups.Statement.{statement}
 use Rattle.exports.proofs.flat.put_uplink_groups.Tie as tie
 

@@ -1,15 +1,37 @@
 -- `messages::d_attach_detach_group_identity::read_head` meets its contract: the type, four bits; another type is refused.
 use mathlib.Core.Path.{ap}
 use Rattle.bits.specs.Reader.{word}
-use Rattle.bits.specs.ReaderLaws.{local·rules, local-tail}
 use Rattle.bits.specs.Placed.{asField8}
-use Rattle.bits.specs.PlacedLaws.{so, by, by-refusal, step, stop, done}
+use Rattle.bits.specs.PlacedLaws.{so, by, by-refusal, stop, done}
 use Rattle.messages.specs.AttachDetach.{attachDetachHead}
-use Rattle.messages.specs.HeadLaws.{type-local}
-use Rattle.messages.specs.PlacedHeads.{type-there, type-ended, type-other}
+use Rattle.messages.specs.PlacedHeads.{Way, past-type, past-field, type-ended, type-other}
 use borrow.Author.Needs.{needs}
 use Rattle.messages.proofs.d_attach_detach_group_identity.read_head.Statement.{statement}
 use Rattle.messages.proofs.d_attach_detach_group_identity.read_head.Tie as tie
+
+-- how far the reading has come: past each field
+
+abbrev past-t : tie.Then1 → Way attachDetachHead
+unfolding word attachDetachHead
+past-t h =
+    let t = h .before .before in
+    past-type _ _ (h .if1 .taken) (by (t .before .before .read-u8 .ensures) (ap asField8 (t .t .given .1)))
+
+abbrev past-r : tie.After-r → Way attachDetachHead
+unfolding word attachDetachHead
+past-r r = past-field _ _ (past-t (r .before .before .before) .comes) (by (r .before .before .read-u82 .ensures) (ap asField8 (r .r .given .1)))
+
+abbrev past-a : tie.After-a → Way attachDetachHead
+unfolding word attachDetachHead
+past-a a = past-field _ _ (past-r (a .before .before .before .before) .comes) (by (a .before .before .read-u83 .ensures) (ap asField8 (a .a .given .1)))
+
+abbrev past-m : tie.After-m → Way attachDetachHead
+unfolding word attachDetachHead
+past-m m = past-field _ _ (past-a (m .before .before .before .before) .comes) (by (m .before .before .read-u84 .ensures) (ap asField8 (m .m .given .1)))
+
+abbrev past-o : tie.After-o → Way attachDetachHead
+unfolding word attachDetachHead
+past-o o = past-field _ _ (past-m (o .before .before .before .before) .comes) (by (o .before .before .read-u85 .ensures) (ap asField8 (o .o .given .1)))
 
 read-u8-requires : tie.Need-read-u8-requires
 read-u8-requires c κs = search needs
@@ -43,10 +65,7 @@ refusal-requires-2 c κs = search needs
 returns-2 : tie.Need-returns-2
 unfolding word attachDetachHead
 returns-2 c =
-    let t = c .before .before .before .before .before .before in
-    so
-    (step _ (type-there _ (c .before .before .before .before .if1 .taken) (by (t .before .before .read-u8 .ensures) (ap asField8 (t .t .given .1)))) (local-tail (type-local _))
-    (stop _ (by-refusal (c .before .before .before .read-u82 .ensures) (ap asField8 (c .before .enum-told2 .given .1)) (c .refusal2 .ensures))))
+    so (past-t (c .before .before .before .before) .comes .on (stop _ (by-refusal (c .before .before .before .read-u82 .ensures) (ap asField8 (c .before .enum-told2 .given .1)) (c .refusal2 .ensures))))
 
 read-u8-requires-3 : tie.Need-read-u8-requires-3
 read-u8-requires-3 c κs = search needs
@@ -63,12 +82,7 @@ refusal-requires-3 c κs = search needs
 returns-3 : tie.Need-returns-3
 unfolding word attachDetachHead
 returns-3 c =
-    let r = c .before .before .before .before .before in
-    let t = r .before .before .before .before .before in
-    so
-    (step _ (type-there _ (r .before .before .before .if1 .taken) (by (t .before .before .read-u8 .ensures) (ap asField8 (t .t .given .1)))) (local-tail (type-local _))
-    (step _ (by (r .before .before .read-u82 .ensures) (ap asField8 (r .r .given .1))) (search local·rules)
-    (stop _ (by-refusal (c .before .before .before .read-u83 .ensures) (ap asField8 (c .before .enum-told3 .given .1)) (c .refusal3 .ensures)))))
+    so (past-r (c .before .before .before .before .before) .comes .on (stop _ (by-refusal (c .before .before .before .read-u83 .ensures) (ap asField8 (c .before .enum-told3 .given .1)) (c .refusal3 .ensures))))
 
 read-u8-requires-4 : tie.Need-read-u8-requires-4
 read-u8-requires-4 c κs = search needs
@@ -85,14 +99,7 @@ refusal-requires-4 c κs = search needs
 returns-4 : tie.Need-returns-4
 unfolding word attachDetachHead
 returns-4 c =
-    let a = c .before .before .before .before .before in
-    let r = a .before .before .before .before in
-    let t = r .before .before .before .before .before in
-    so
-    (step _ (type-there _ (r .before .before .before .if1 .taken) (by (t .before .before .read-u8 .ensures) (ap asField8 (t .t .given .1)))) (local-tail (type-local _))
-    (step _ (by (r .before .before .read-u82 .ensures) (ap asField8 (r .r .given .1))) (search local·rules)
-    (step _ (by (a .before .before .read-u83 .ensures) (ap asField8 (a .a .given .1))) (search local·rules)
-    (stop _ (by-refusal (c .before .before .before .read-u84 .ensures) (ap asField8 (c .before .enum-told4 .given .1)) (c .refusal4 .ensures))))))
+    so (past-a (c .before .before .before .before .before) .comes .on (stop _ (by-refusal (c .before .before .before .read-u84 .ensures) (ap asField8 (c .before .enum-told4 .given .1)) (c .refusal4 .ensures))))
 
 read-u8-requires-5 : tie.Need-read-u8-requires-5
 read-u8-requires-5 c κs = search needs
@@ -109,32 +116,12 @@ refusal-requires-5 c κs = search needs
 returns-5 : tie.Need-returns-5
 unfolding word attachDetachHead
 returns-5 c =
-    let m = c .before .before .before .before .before in
-    let a = m .before .before .before .before in
-    let r = a .before .before .before .before in
-    let t = r .before .before .before .before .before in
-    so
-    (step _ (type-there _ (r .before .before .before .if1 .taken) (by (t .before .before .read-u8 .ensures) (ap asField8 (t .t .given .1)))) (local-tail (type-local _))
-    (step _ (by (r .before .before .read-u82 .ensures) (ap asField8 (r .r .given .1))) (search local·rules)
-    (step _ (by (a .before .before .read-u83 .ensures) (ap asField8 (a .a .given .1))) (search local·rules)
-    (step _ (by (m .before .before .read-u84 .ensures) (ap asField8 (m .m .given .1))) (search local·rules)
-    (stop _ (by-refusal (c .before .before .before .read-u85 .ensures) (ap asField8 (c .before .enum-told5 .given .1)) (c .refusal5 .ensures)))))))
+    so (past-m (c .before .before .before .before .before) .comes .on (stop _ (by-refusal (c .before .before .before .read-u85 .ensures) (ap asField8 (c .before .enum-told5 .given .1)) (c .refusal5 .ensures))))
 
 returns-6 : tie.Need-returns-6
 unfolding word attachDetachHead
 returns-6 c =
-    let o = c .before in
-    let m = o .before .before .before .before in
-    let a = m .before .before .before .before in
-    let r = a .before .before .before .before in
-    let t = r .before .before .before .before .before in
-    so
-    (step _ (type-there _ (r .before .before .before .if1 .taken) (by (t .before .before .read-u8 .ensures) (ap asField8 (t .t .given .1)))) (local-tail (type-local _))
-    (step _ (by (r .before .before .read-u82 .ensures) (ap asField8 (r .r .given .1))) (search local·rules)
-    (step _ (by (a .before .before .read-u83 .ensures) (ap asField8 (a .a .given .1))) (search local·rules)
-    (step _ (by (m .before .before .read-u84 .ensures) (ap asField8 (m .m .given .1))) (search local·rules)
-    (step _ (by (o .before .before .read-u85 .ensures) (ap asField8 (o .o .given .1))) (search local·rules)
-    (done))))))
+    so (past-o (c .before) .comes .on done)
 
 returns-7 : tie.Need-returns-7
 unfolding word attachDetachHead

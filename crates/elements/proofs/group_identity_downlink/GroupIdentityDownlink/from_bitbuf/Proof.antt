@@ -1,15 +1,36 @@
 -- `elements::group_identity_downlink::GroupIdentityDownlink::from_bitbuf` meets its contract: by the laws of a group of either direction.
 use mathlib.Core.Path.{ap}
-use Rattle.bits.specs.Reader.{word}
-use Rattle.bits.specs.Placed.{asField8}
-use Rattle.bits.specs.PlacedLaws.{so, by, by-refusal, stop}
-use Rattle.elements.specs.Groups.{downlink}
-use Rattle.elements.specs.Answers.{asOptionalU8}
+use lib.Dec.{eqb}
+use Rattle.bits.specs.Reader.{field, word}
+use Rattle.bits.specs.Placed.{placed, asField8}
+use Rattle.bits.specs.PlacedLaws.{Gives, so, by, by-refusal, stop}
+use Rattle.elements.specs.Groups.{attachment, detachment, detachmentWidth, downlink}
+use Rattle.elements.specs.Numbers.{flagWidth}
+use Rattle.elements.specs.Answers.{optionalU8, asOptionalU8}
 use Rattle.elements.specs.GroupAnswers.{asAddress, asAttachment}
-use Rattle.elements.specs.PlacedGroups.{downlinkShape, no-information, no-detachment, no-address, whole-group}
+use Rattle.elements.specs.PlacedGroups.{informed, downlinkShape, no-information, no-detachment, no-address, whole-group}
 use borrow.Author.Needs.{needs}
 use Rattle.elements.proofs.group_identity_downlink.GroupIdentityDownlink.from_bitbuf.Statement.{statement}
 use Rattle.elements.proofs.group_identity_downlink.GroupIdentityDownlink.from_bitbuf.Tie as tie
+
+-- what the calls read
+kind : (c : tie.After-k) → let a = c .before .before .before .before .args in
+    Gives (field flagWidth)
+    (a .octets .now) (a .c) (placed (c .k .given .0 .0) (c .k .given .0 .1 .0))
+unfolding word
+kind c = by (c .before .before .read-u8 .ensures) (ap asField8 (c .k .given .1))
+
+information : (c : tie.After-t) → let a = c .before .before .before .before .before .before .before .before .args in
+    Gives (informed downlinkShape (eqb (c .before .before .before .before .k .given .0 .0) attachment))
+    (a .octets .now) (c .before .before .before .before .k .given .0 .1 .0) (placed (c .t .given .0 .0) (c .t .given .0 .1 .0))
+unfolding word
+information c = by (c .before .before .read-optional-attachment .ensures) (ap asAttachment (c .t .given .1))
+
+detached : (c : tie.After-d) → let a = c .before .before .before .before .before .before .before .before .before .before .before .before .before .args in
+    Gives (optionalU8 (eqb (c .before .before .before .before .before .before .before .before .before .k .given .0 .0) detachment) (field detachmentWidth))
+    (a .octets .now) (c .before .before .before .before .before .t .given .0 .1 .0) (placed (c .d .given .0 .0) (c .d .given .0 .1 .0))
+unfolding word
+detached c = by (c .before .before .read-optional-u8 .ensures) (ap asOptionalU8 (c .d .given .1))
 
 read-u8-requires : tie.Need-read-u8-requires
 read-u8-requires c κs = search needs
@@ -45,7 +66,7 @@ unfolding word downlink
 returns-2 c =
     so
     (no-information downlinkShape
-    (by (c .before .before .before .before .before .before .before .read-u8 .ensures) (ap asField8 (c .before .before .before .before .before .k .given .1)))
+    (kind (c .before .before .before .before .before))
     (by-refusal (c .before .before .before .read-optional-attachment .ensures) (ap asAttachment (c .before .enum-told2 .given .1)) (c .refusal2 .ensures)))
 
 read-optional-u8-requires : tie.Need-read-optional-u8-requires
@@ -65,8 +86,8 @@ unfolding word downlink
 returns-3 c =
     so
     (no-detachment downlinkShape
-    (by (c .before .before .before .before .before .before .before .before .before .before .before .before .read-u8 .ensures) (ap asField8 (c .before .before .before .before .before .before .before .before .before .before .k .given .1)))
-    (by (c .before .before .before .before .before .before .before .before .read-optional-attachment .ensures) (ap asAttachment (c .before .before .before .before .before .before .t .given .1)))
+    (kind (c .before .before .before .before .before .before .before .before .before .before))
+    (information (c .before .before .before .before .before .before))
     (by-refusal (c .before .before .before .read-optional-u8 .ensures) (ap asOptionalU8 (c .before .enum-told3 .given .1)) (c .refusal3 .ensures)))
 
 read-downlink-address-requires : tie.Need-read-downlink-address-requires
@@ -86,9 +107,9 @@ unfolding word downlink
 returns-4 c =
     so
     (no-address downlinkShape
-    (by (c .before .before .before .before .before .before .before .before .before .before .before .before .before .before .before .before .read-u8 .ensures) (ap asField8 (c .before .before .before .before .before .before .before .before .before .before .before .before .before .before .k .given .1)))
-    (by (c .before .before .before .before .before .before .before .before .before .before .before .before .read-optional-attachment .ensures) (ap asAttachment (c .before .before .before .before .before .before .before .before .before .before .t .given .1)))
-    (by (c .before .before .before .before .before .before .before .read-optional-u8 .ensures) (ap asOptionalU8 (c .before .before .before .before .before .d .given .1)))
+    (kind (c .before .before .before .before .before .before .before .before .before .before .before .before .before .before))
+    (information (c .before .before .before .before .before .before .before .before .before .before))
+    (detached (c .before .before .before .before .before))
     (by-refusal (c .before .before .before .read-downlink-address .ensures) (ap asAddress (c .before .enum-told4 .given .1)) (c .refusal4 .ensures)))
 
 returns-5 : tie.Need-returns-5
@@ -96,9 +117,9 @@ unfolding word downlink
 returns-5 c =
     so
     (whole-group downlinkShape
-    (by (c .before .before .before .before .before .before .before .before .before .before .before .before .before .before .before .before .read-u8 .ensures) (ap asField8 (c .before .before .before .before .before .before .before .before .before .before .before .before .before .before .k .given .1)))
-    (by (c .before .before .before .before .before .before .before .before .before .before .before .before .read-optional-attachment .ensures) (ap asAttachment (c .before .before .before .before .before .before .before .before .before .before .t .given .1)))
-    (by (c .before .before .before .before .before .before .before .read-optional-u8 .ensures) (ap asOptionalU8 (c .before .before .before .before .before .d .given .1)))
+    (kind (c .before .before .before .before .before .before .before .before .before .before .before .before .before .before))
+    (information (c .before .before .before .before .before .before .before .before .before .before))
+    (detached (c .before .before .before .before .before))
     (by (c .before .before .before .read-downlink-address .ensures) (ap asAddress (c .before .a .given .1))))
 
 pub from-bitbuf-spec : {M : Type 1} → statement M

@@ -14,7 +14,7 @@ use Rattle.elements.specs.Numbers.{flagWidth}
 use Rattle.elements.specs.Lists.{downlinks}
 use Rattle.elements.specs.ListsLaws.{downlinks-sound}
 use Rattle.elements.specs.Locations.{nested, groupIdentityDownlink, acceptBody, locationAccept}
-use Rattle.elements.specs.LocationsLaws.{acceptOf, accept-body-local}
+use Rattle.elements.specs.LocationsLaws.{acceptOf, accept-laws}
 use Rattle.elements.specs.GroupAnswers.{locationAcceptAnswer}
 use Rattle.elements.specs.Verdicts.{answer, downlinks-beside, verdict-to, verdict-refused}
 use Rattle.elements.specs.declared.group_identity_location_accept.GroupIdentityLocationAccept.{GroupIdentityLocationAccept}
@@ -85,21 +85,21 @@ returns-3 : tie.Need-returns-3
 unfolding word locationAccept
 returns-3 c =
     rw (c .before .enum-told3 .given .1, c .no-location-accept3 .ensures)
-    (answer locationAcceptAnswer (structure-refused downlinks-sound groupIdentityDownlink _ (local-tail accept-body-local)
+    (answer locationAcceptAnswer (structure-refused downlinks-sound groupIdentityDownlink _ (local-tail (accept-laws .body-local))
     (list-behind (by (c .before .before .before .before .before .before .before .before .before .before .before .read-u8 .ensures) (ap asField8 (c .before .before .before .before .before .before .before .before .before .f .given .1))) (by (c .before .before .before .before .before .before .before .pass .ensures) (ap asMoved (c .before .before .before .before .before .p .given .1)))) (c .before .before .before .before .before .before .before .before .before .before .before .before .before .args .len)
     (verdict-refused downlinks-beside (c .before .before .before .read-list .ensures) (c .before .enum-told3 .given .1))))
 
 sub-if1 : tie.Need-sub-if1
 unfolding word
 sub-if1 c =
-    structure-on downlinks-sound groupIdentityDownlink _ (local-tail accept-body-local)
+    structure-on downlinks-sound groupIdentityDownlink _ (local-tail (accept-laws .body-local))
     (list-behind (by (c .before .before .before .before .before .before .before .before .before .before .before .read-u8 .ensures) (ap asField8 (c .before .before .before .before .before .before .before .before .before .f .given .1))) (by (c .before .before .before .before .before .before .before .pass .ensures) (ap asMoved (c .before .before .before .before .before .p .given .1)))) (c .before .before .before .before .before .before .before .before .before .before .before .before .before .args .len)
     (verdict-to downlinks-beside (c .before .before .before .read-list .ensures) (c .before .v .given .1))
 
 returns-4 : tie.Need-returns-4
 unfolding word locationAccept
 returns-4 c =
-    answer locationAcceptAnswer (structure-whole downlinks-sound groupIdentityDownlink _ (local-tail accept-body-local)
+    answer locationAcceptAnswer (structure-whole downlinks-sound groupIdentityDownlink _ (local-tail (accept-laws .body-local))
     (list-behind (by (c .before .before .before .before .before .before .before .before .before .before .before .before .before .read-u8 .ensures) (ap asField8 (c .before .before .before .before .before .before .before .before .before .before .before .f .given .1))) (by (c .before .before .before .before .before .before .before .before .before .pass .ensures) (ap asMoved (c .before .before .before .before .before .before .before .p .given .1)))) (c .before .before .before .before .before .before .before .before .before .before .before .before .before .before .before .args .len)
     (verdict-to downlinks-beside (c .before .before .before .before .before .read-list .ensures) (c .before .before .before .v .given .1)) (c .before .if1 .taken))
 
@@ -110,7 +110,7 @@ returns-5 : tie.Need-returns-5
 unfolding word locationAccept
 returns-5 c =
     rw (c .no-location-accept4 .ensures)
-    (answer locationAcceptAnswer (structure-inexact downlinks-sound groupIdentityDownlink _ (local-tail accept-body-local)
+    (answer locationAcceptAnswer (structure-inexact downlinks-sound groupIdentityDownlink _ (local-tail (accept-laws .body-local))
     (list-behind (by (c .before .before .before .before .before .before .before .before .before .before .before .before .before .read-u8 .ensures) (ap asField8 (c .before .before .before .before .before .before .before .before .before .before .before .f .given .1))) (by (c .before .before .before .before .before .before .before .before .before .pass .ensures) (ap asMoved (c .before .before .before .before .before .before .before .p .given .1)))) (c .before .before .before .before .before .before .before .before .before .before .before .before .before .before .before .args .len)
     (verdict-to downlinks-beside (c .before .before .before .before .before .read-list .ensures) (c .before .before .before .v .given .1)) (c .before .if1 .left)))
 

@@ -17,7 +17,7 @@ use Rattle.elements.specs.Numbers.{flagWidth}
 use Rattle.elements.specs.Lists.{uplinks}
 use Rattle.elements.specs.ListsLaws.{uplinks-sound}
 use Rattle.elements.specs.Locations.{nested, groupIdentityUplink, demandBody, locationDemand}
-use Rattle.elements.specs.LocationsLaws.{demandOf, demand-body-local}
+use Rattle.elements.specs.LocationsLaws.{demandOf, demand-laws}
 use Rattle.elements.specs.GroupAnswers.{locationDemandAnswer}
 use Rattle.elements.specs.Verdicts.{answer, uplinks-beside, verdict-to, verdict-refused}
 use Rattle.elements.specs.declared.group_identity_location_demand.GroupIdentityLocationDemand.{GroupIdentityLocationDemand}
@@ -110,21 +110,21 @@ returns-4 : tie.Need-returns-4
 unfolding word locationDemand
 returns-4 c =
     rw (c .before .enum-told3 .given .1, c .no-location-demand4 .ensures)
-    (answer locationDemandAnswer (structure-refused uplinks-sound groupIdentityUplink _ (local-tail demand-body-local)
+    (answer locationDemandAnswer (structure-refused uplinks-sound groupIdentityUplink _ (local-tail (demand-laws .body-local))
     (list-behind (by (c .before .before .before .before .before .before .before .before .before .before .before .before .read-u8 .ensures) (ap asField8 (c .before .before .before .before .before .before .before .before .before .before .f .given .1))) (c .before .before .before .before .before .before .before .before .if1 .left) (by (c .before .before .before .before .before .before .before .read-u82 .ensures) (ap asField8 (c .before .before .before .before .before .m .given .1)))) (c .before .before .before .before .before .before .before .before .before .before .before .before .before .before .args .len)
     (verdict-refused uplinks-beside (c .before .before .before .read-list .ensures) (c .before .enum-told3 .given .1))))
 
 sub-if2 : tie.Need-sub-if2
 unfolding word
 sub-if2 c =
-    structure-on uplinks-sound groupIdentityUplink _ (local-tail demand-body-local)
+    structure-on uplinks-sound groupIdentityUplink _ (local-tail (demand-laws .body-local))
     (list-behind (by (c .before .before .before .before .before .before .before .before .before .before .before .before .read-u8 .ensures) (ap asField8 (c .before .before .before .before .before .before .before .before .before .before .f .given .1))) (c .before .before .before .before .before .before .before .before .if1 .left) (by (c .before .before .before .before .before .before .before .read-u82 .ensures) (ap asField8 (c .before .before .before .before .before .m .given .1)))) (c .before .before .before .before .before .before .before .before .before .before .before .before .before .before .args .len)
     (verdict-to uplinks-beside (c .before .before .before .read-list .ensures) (c .before .v .given .1))
 
 returns-5 : tie.Need-returns-5
 unfolding word locationDemand
 returns-5 c =
-    answer locationDemandAnswer (structure-whole uplinks-sound groupIdentityUplink _ (local-tail demand-body-local)
+    answer locationDemandAnswer (structure-whole uplinks-sound groupIdentityUplink _ (local-tail (demand-laws .body-local))
     (list-behind (by (c .before .before .before .before .before .before .before .before .before .before .before .before .before .before .read-u8 .ensures) (ap asField8 (c .before .before .before .before .before .before .before .before .before .before .before .before .f .given .1))) (c .before .before .before .before .before .before .before .before .before .before .if1 .left) (by (c .before .before .before .before .before .before .before .before .before .read-u82 .ensures) (ap asField8 (c .before .before .before .before .before .before .before .m .given .1)))) (c .before .before .before .before .before .before .before .before .before .before .before .before .before .before .before .before .args .len)
     (verdict-to uplinks-beside (c .before .before .before .before .before .read-list .ensures) (c .before .before .before .v .given .1)) (c .before .if2 .taken))
 
@@ -135,7 +135,7 @@ returns-6 : tie.Need-returns-6
 unfolding word locationDemand
 returns-6 c =
     rw (c .no-location-demand5 .ensures)
-    (answer locationDemandAnswer (structure-inexact uplinks-sound groupIdentityUplink _ (local-tail demand-body-local)
+    (answer locationDemandAnswer (structure-inexact uplinks-sound groupIdentityUplink _ (local-tail (demand-laws .body-local))
     (list-behind (by (c .before .before .before .before .before .before .before .before .before .before .before .before .before .before .read-u8 .ensures) (ap asField8 (c .before .before .before .before .before .before .before .before .before .before .before .before .f .given .1))) (c .before .before .before .before .before .before .before .before .before .before .if1 .left) (by (c .before .before .before .before .before .before .before .before .before .read-u82 .ensures) (ap asField8 (c .before .before .before .before .before .before .before .m .given .1)))) (c .before .before .before .before .before .before .before .before .before .before .before .before .before .before .before .before .args .len)
     (verdict-to uplinks-beside (c .before .before .before .before .before .read-list .ensures) (c .before .before .before .v .given .1)) (c .before .if2 .left)))
 

@@ -1,15 +1,36 @@
 -- `elements::group_identity_uplink::GroupIdentityUplink::from_bitbuf` meets its contract: by the laws of a group of either direction.
 use mathlib.Core.Path.{ap}
-use Rattle.bits.specs.Reader.{word}
-use Rattle.bits.specs.Placed.{asField8}
-use Rattle.bits.specs.PlacedLaws.{so, by, by-refusal, stop}
-use Rattle.elements.specs.Groups.{uplink}
-use Rattle.elements.specs.Answers.{asOptionalU8}
+use lib.Dec.{eqb}
+use Rattle.bits.specs.Reader.{field, word}
+use Rattle.bits.specs.Placed.{placed, asField8}
+use Rattle.bits.specs.PlacedLaws.{Gives, so, by, by-refusal, stop}
+use Rattle.elements.specs.Groups.{attachment, detachment, detachmentWidth, uplink}
+use Rattle.elements.specs.Numbers.{flagWidth}
+use Rattle.elements.specs.Answers.{optionalU8, asOptionalU8}
 use Rattle.elements.specs.GroupAnswers.{asAddress}
-use Rattle.elements.specs.PlacedGroups.{uplinkShape, no-information, no-detachment, no-address, whole-group}
+use Rattle.elements.specs.PlacedGroups.{informed, uplinkShape, no-information, no-detachment, no-address, whole-group}
 use borrow.Author.Needs.{needs}
 use Rattle.elements.proofs.group_identity_uplink.GroupIdentityUplink.from_bitbuf.Statement.{statement}
 use Rattle.elements.proofs.group_identity_uplink.GroupIdentityUplink.from_bitbuf.Tie as tie
+
+-- what the calls read
+kind : (c : tie.After-k) → let a = c .before .before .before .before .args in
+    Gives (field flagWidth)
+    (a .octets .now) (a .c) (placed (c .k .given .0 .0) (c .k .given .0 .1 .0))
+unfolding word
+kind c = by (c .before .before .read-u8 .ensures) (ap asField8 (c .k .given .1))
+
+information : (c : tie.After-u) → let a = c .before .before .before .before .before .before .before .before .args in
+    Gives (informed uplinkShape (eqb (c .before .before .before .before .k .given .0 .0) attachment))
+    (a .octets .now) (c .before .before .before .before .k .given .0 .1 .0) (placed (c .u .given .0 .0) (c .u .given .0 .1 .0))
+unfolding word
+information c = by (c .before .before .read-optional-u8 .ensures) (ap asOptionalU8 (c .u .given .1))
+
+detached : (c : tie.After-d) → let a = c .before .before .before .before .before .before .before .before .before .before .before .before .args in
+    Gives (optionalU8 (eqb (c .before .before .before .before .before .before .before .before .k .given .0 .0) detachment) (field detachmentWidth))
+    (a .octets .now) (c .before .before .before .before .u .given .0 .1 .0) (placed (c .d .given .0 .0) (c .d .given .0 .1 .0))
+unfolding word
+detached c = by (c .before .before .read-optional-u82 .ensures) (ap asOptionalU8 (c .d .given .1))
 
 read-u8-requires : tie.Need-read-u8-requires
 read-u8-requires c κs = search needs
@@ -45,7 +66,7 @@ unfolding word uplink
 returns-2 c =
     so
     (no-information uplinkShape
-    (by (c .before .before .before .before .before .before .before .read-u8 .ensures) (ap asField8 (c .before .before .before .before .before .k .given .1)))
+    (kind (c .before .before .before .before .before))
     (by-refusal (c .before .before .before .read-optional-u8 .ensures) (ap asOptionalU8 (c .before .enum-told2 .given .1)) (c .refusal2 .ensures)))
 
 read-optional-u8-requires-2 : tie.Need-read-optional-u8-requires-2
@@ -65,8 +86,8 @@ unfolding word uplink
 returns-3 c =
     so
     (no-detachment uplinkShape
-    (by (c .before .before .before .before .before .before .before .before .before .before .before .read-u8 .ensures) (ap asField8 (c .before .before .before .before .before .before .before .before .before .k .given .1)))
-    (by (c .before .before .before .before .before .before .before .read-optional-u8 .ensures) (ap asOptionalU8 (c .before .before .before .before .before .u .given .1)))
+    (kind (c .before .before .before .before .before .before .before .before .before))
+    (information (c .before .before .before .before .before))
     (by-refusal (c .before .before .before .read-optional-u82 .ensures) (ap asOptionalU8 (c .before .enum-told3 .given .1)) (c .refusal3 .ensures)))
 
 read-uplink-address-requires : tie.Need-read-uplink-address-requires
@@ -86,9 +107,9 @@ unfolding word uplink
 returns-4 c =
     so
     (no-address uplinkShape
-    (by (c .before .before .before .before .before .before .before .before .before .before .before .before .before .before .before .read-u8 .ensures) (ap asField8 (c .before .before .before .before .before .before .before .before .before .before .before .before .before .k .given .1)))
-    (by (c .before .before .before .before .before .before .before .before .before .before .before .read-optional-u8 .ensures) (ap asOptionalU8 (c .before .before .before .before .before .before .before .before .before .u .given .1)))
-    (by (c .before .before .before .before .before .before .before .read-optional-u82 .ensures) (ap asOptionalU8 (c .before .before .before .before .before .d .given .1)))
+    (kind (c .before .before .before .before .before .before .before .before .before .before .before .before .before))
+    (information (c .before .before .before .before .before .before .before .before .before))
+    (detached (c .before .before .before .before .before))
     (by-refusal (c .before .before .before .read-uplink-address .ensures) (ap asAddress (c .before .enum-told4 .given .1)) (c .refusal4 .ensures)))
 
 cast-t20 : tie.Need-cast-t20
@@ -99,9 +120,9 @@ unfolding word uplink
 returns-5 c =
     so
     (whole-group uplinkShape
-    (by (c .before .before .before .before .before .before .before .before .before .before .before .before .before .before .before .before .read-u8 .ensures) (ap asField8 (c .before .before .before .before .before .before .before .before .before .before .before .before .before .before .k .given .1)))
-    (by (c .before .before .before .before .before .before .before .before .before .before .before .before .read-optional-u8 .ensures) (ap asOptionalU8 (c .before .before .before .before .before .before .before .before .before .before .u .given .1)))
-    (by (c .before .before .before .before .before .before .before .before .read-optional-u82 .ensures) (ap asOptionalU8 (c .before .before .before .before .before .before .d .given .1)))
+    (kind (c .before .before .before .before .before .before .before .before .before .before .before .before .before .before))
+    (information (c .before .before .before .before .before .before .before .before .before .before))
+    (detached (c .before .before .before .before .before .before))
     (by (c .before .before .before .before .read-uplink-address .ensures) (ap asAddress (c .before .before .a .given .1))))
 
 pub from-bitbuf-spec : {M : Type 1} → statement M

@@ -1,0 +1,11 @@
+-- `elements::group_address::below_if` meets its contract. Assumes nothing.
+use Rattle.elements.specs.GroupsAsked.{option-below}
+use borrow.Author.Needs.{needs}
+use Rattle.elements.proofs.group_address.below_if.Statement.{statement}
+use Rattle.elements.proofs.group_address.below_if.Tie as tie
+
+returns : tie.Need-returns
+returns c = let a = c .args in option-below (a .present) (a .value) (a .limit)
+
+pub below-if-spec : {M : Type 1} → statement M
+below-if-spec = tie.close (tie.spec returns)

@@ -1,0 +1,80 @@
+-- `elements::group_identity_downlink::GroupIdentityDownlink::asked` meets its contract. Assumes nothing.
+use native.Mathlib.Omega.{arith}
+use Rattle.elements.specs.Groups.{attachmentBits, downlinkForms, downlinkAttachment, downlinkDetachment, downlinkAddressIn, downlinkBits, downlinkFits, downlinkOne, downlinkListed}
+use Rattle.elements.specs.GroupParts.{present-held}
+use Rattle.elements.specs.GroupsAsked.{option-size, attachment-size, downlink-listed, group-size}
+use borrow.Author.Needs.{needs}
+use Rattle.elements.proofs.group_identity_downlink.GroupIdentityDownlink.asked.Statement.{
+  statement,
+}
+use Rattle.elements.proofs.group_identity_downlink.GroupIdentityDownlink.asked.Tie as tie
+
+attachment-fits-requires : tie.Need-attachment-fits-requires
+attachment-fits-requires c κs = search needs
+
+cast-below-if : tie.Need-cast-below-if
+cast-below-if c = search needs
+
+below-if-requires : tie.Need-below-if-requires
+below-if-requires c κs = search needs
+
+fits-requires : tie.Need-fits-requires
+fits-requires c κs = search needs
+
+width-if-requires : tie.Need-width-if-requires
+width-if-requires c κs = search needs
+
+width-if-requires-2 : tie.Need-width-if-requires-2
+width-if-requires-2 c κs = search needs
+
+size-requires : tie.Need-size-requires
+size-requires c κs = search needs
+
+add-t27 : tie.Need-add-t27
+add-t27 c = search needs
+
+add-t28 : tie.Need-add-t28
+add-t28 c = search needs
+
+add-t29 : tie.Need-add-t29
+add-t29 c = search needs
+
+returns : tie.Need-returns
+unfolding downlinkBits downlinkFits downlinkOne downlinkListed
+returns c =
+    let g = c .before .before .before .before .before .before .before .before .args .self in (
+      rw (
+        c .before .before .before .before .before .before .attachment-fits .ensures,
+        c .before .before .before .before .below-if .ensures,
+        c .before .before .before .fits2 .ensures,
+        c .before .before .width-if .ensures .0,
+        c .before .width-if2 .ensures .0,
+        c .size .ensures .0,
+        attachment-size (g .«group_identity_attachment_present») (g .«group_identity_attachment»),
+        option-size (g .«group_identity_detachment_uplink_present») 2 (g .«group_identity_detachment_uplink»),
+        group-size attachmentBits downlinkForms (downlinkAttachment g) (downlinkDetachment g) (downlinkAddressIn g),
+        present-held (g .«group_identity_attachment_present») (g .«group_identity_attachment»),
+        present-held (g .«group_identity_detachment_uplink_present») (g .«group_identity_detachment_uplink»),
+        present-held (g .«gssi_present») (g .gssi),
+        present-held (g .«address_extension_present») (g .«address_extension»),
+        present-held (g .«vgssi_present») (g .vgssi),
+        downlink-listed (g .«gssi_present») (g .«address_extension_present») (g .«vgssi_present»),
+      ),
+      omega arith,
+    )
+
+pub asked-spec : {M : Type 1} → statement M
+asked-spec =
+    tie.close
+    (tie.spec
+    attachment-fits-requires
+    cast-below-if
+    below-if-requires
+    fits-requires
+    width-if-requires
+    width-if-requires-2
+    size-requires
+    add-t27
+    add-t28
+    add-t29
+    returns)
