@@ -1,4 +1,5 @@
-/* The reader of three messages of TETRA mobility management, as libexports.a has it (`rt staticlib exports`). */
+/* The reader and rewriter of three messages of TETRA mobility management, as libexports.a has them
+ * (`rt staticlib exports`). */
 #ifndef TETRA_MM_H
 #define TETRA_MM_H
 
@@ -19,7 +20,7 @@ enum {
 /* Readings: a skipping one passes over whole outer elements that the message's table lacks, and counts them. */
 enum { TETRA_MM_STRICT = 0, TETRA_MM_SKIPPING = 1 };
 
-/* Refusals, in the order in which a reading asks; the first one met is the answer. */
+/* Refusals, in the order in which a reading or a rewriting asks; the first one met is the answer. */
 enum {
     TETRA_MM_BAD_CALL = 1,            /* unknown message or reading, over 4,096 octets, or no window of them */
     TETRA_MM_BUFFER_ENDED = 2,        /* a field, identifier or content ends outside the window */
@@ -28,7 +29,10 @@ enum {
     TETRA_MM_TYPE4_LENGTH = 5,        /* a type 4 length is below the 6 bits of its count */
     TETRA_MM_INCONSISTENT_LENGTH = 6, /* a structure or list does not end where its length said */
     TETRA_MM_TRAILING_MBIT = 7,       /* the closing M-bit is 1 */
-    TETRA_MM_TOO_SHORT = 16           /* the flat buffer does not hold the form; asked last */
+    TETRA_MM_VALUE_TOO_LARGE = 8,     /* a generic element is longer than the 64 bits that a record holds */
+    TETRA_MM_ADDRESS_FORM = 11,       /* an uplink group has no address */
+    TETRA_MM_TYPE4_NOT_WRITTEN = 14,  /* a generic type 4 element is present */
+    TETRA_MM_TOO_SHORT = 16           /* the flat buffer, or the output's window, is too short; asked last */
 };
 
 /* Octets of the flat form with n groups, n at most 63. TETRA_MM_FLAT_MAX is enough for every message. */
@@ -50,6 +54,27 @@ enum {
  */
 uint64_t tetra_mm_read(uint64_t message, uint64_t reading, const uint8_t *octets, size_t octets_len, uint64_t first,
                        uint64_t end, uint8_t *flat, size_t flat_len);
+
+/*
+ * Reads the message strictly in bits first..end of the octets, and writes its record to the front of bits
+ * out_first..out_end of out.
+ *
+ * The result is 64 x the bits written plus the refusal's number; one of the two is 0.
+ * With a record, the message's bits stand in out from bit out_first on; every other bit of out is kept,
+ * those of the window too. They are not always the bits read: where nothing optional is present the O-bit is
+ * 0 and the last one; the last bit of an LA, the reserved bit of a location accept and the frames of
+ * StayAlive are 0.
+ * A refusal keeps all of out. The lent octets are never changed.
+ *
+ * Asked in this order: octets, first and end (1), the strict reading (2 to 7), out, out_first and out_end
+ * (1: over 4,096 octets, or no window of them), the record (8, 11, 14), the space (16). The numbers between
+ * are of records that no reading gives.
+ *
+ * The two lent buffers must not overlap, nor change during the call, but for what it writes; nothing is kept
+ * after it. A pointer must not be null, not even with a length of 0.
+ */
+uint64_t tetra_mm_rewrite(uint64_t message, const uint8_t *octets, size_t octets_len, uint64_t first, uint64_t end,
+                          uint8_t *out, size_t out_len, uint64_t out_first, uint64_t out_end);
 
 #ifdef __cplusplus
 }

@@ -1,7 +1,9 @@
 -- A reader of bits, run at a cursor over octets; and what each answer of the code says.
-use Prim.Native.Nat.{ℕ, _+_, _-_, _*_, min}
+use Prim.Native.Nat.{ℕ, _+_, _-_, _*_, _%_, min}
+use mathlib.Core.Bool.{cond}
 use mathlib.Core.List.{List}
 use lib.ListN.{length, take, drop}
+use lib.Dec.{eqb}
 use Rattle.bits.specs.Bits.{Bits, number, bitsOf}
 use Rattle.bits.specs.Reader.{Answer, got, refused, Reader}
 use Rattle.bits.specs.declared.bitbuffer.Cursor.{Cursor}
@@ -13,6 +15,7 @@ use Rattle.bits.specs.declared.bitbuffer.Field32.{Field32}
 use Rattle.bits.specs.declared.bitbuffer.Field32.the-variants as F32
 use Rattle.bits.specs.declared.bitbuffer.Moved.{Moved}
 use Rattle.bits.specs.declared.bitbuffer.Moved.the-variants as M
+use Rattle.bits.specs.declared.bitbuffer.Place.{Place}
 
 -- the bits left at a cursor: none past its end, and none past the octets
 unfoldable pub window : List ℕ → Cursor → Bits
@@ -61,6 +64,14 @@ asField32 (F32.Refused n) = halted n
 abbrev pub asMoved : Moved → Placed Unit
 asMoved (M.To c) = placed tt c
 asMoved (M.Refused n) = halted n
+
+-- a place to write at: behind a refusal its number stands in the lowest octet
+abbrev pub asPlace : Place → Placed Unit
+asPlace p = cond (eqb (p .halt) 0) (placed tt (record { at = p .at; end = p .end })) (halted (p .halt % 256))
+
+-- w bits written at a cursor, or a refusal's number
+abbrev pub stored : ℕ → Cursor → ℕ → Placed Unit
+stored w c n = cond (eqb n 0) (placed tt (onward w c)) (halted n)
 
 -- the number of a refusal, 0 if there is none
 abbrev pub refusal : {A : Type 0} → Placed A → ℕ

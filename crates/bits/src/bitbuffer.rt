@@ -5,7 +5,7 @@ ghost use lib.ListN.{length};
 ghost use lib.Dec.{leb, ltb};
 ghost use Rattle.bits.specs.Bits.{number, digits};
 ghost use Rattle.bits.specs.Reader.{word, pass};
-ghost use Rattle.bits.specs.Placed.{left, fieldAt, onward, at, asField, asField8, asField32, asMoved, refusal};
+ghost use Rattle.bits.specs.Placed.{left, fieldAt, onward, at, asField, asField8, asField32, asMoved, asPlace, stored, refusal};
 ghost use Rattle.bits.specs.Written.{splice, putBits, writeField, written, next, Joined, roomFor, refuse};
 use crate::pdu_parse_error::BUFFER_ENDED;
 use crate::pdu_parse_error::VALUE_TOO_LARGE;
@@ -37,6 +37,14 @@ pub enum Field32 {
 pub enum Moved {
     To(Cursor),
     Refused(u8),
+}
+
+// Where what comes next is written: from `at` up to `end`; or nowhere, behind a refusal: `halt` is 0, or 256 and its number.
+// Words only, so that passing it on through memory is fast, which an enum's tag of one octet is not.
+pub struct Place {
+    pub at: usize,
+    pub end: usize,
+    pub halt: u64,
 }
 
 // At most 64 bits, to be written as one field: the low `width` digits of `value`.
@@ -296,22 +304,35 @@ impl Cursor {
         Moved::Refused(BUFFER_ENDED)
     }
 
-    // Writes `value` in the next `width` bits, every other bit kept; a refusal changes nothing.
-    pub fn write(self, octets: &mut [u8], value: u64, width: usize) -> Moved
-        ensures answer { λ r. ⌜ asMoved r ≡ writeField width value (now (octets .entry)) self .answer ⌝ }
+    // Writes `value` in the next `width` bits, every other bit kept: 0, or the number of a refusal, which changes nothing.
+    fn store(self, octets: &mut [u8], value: u64, width: usize) -> u8
+        ensures answer { λ r. ⌜ stored width self r ≡ writeField width value (now (octets .entry)) self .answer ⌝ }
         ensures octets { λ r. ⌜ now (octets .exit) ≡ writeField width value (now (octets .entry)) self .octets ⌝ }
+        ensures room { λ r. ⌜ (r ≡ 0 → self .at + width < 2 ^ 64) ⌝ }
     {
         if 64 < width {
-            return Moved::Refused(VALUE_TOO_LARGE);
+            return VALUE_TOO_LARGE;
         }
         if within(value, width) {
             if self.holds(octets.len(), width) {
                 put(octets, self.at, width, value);
-                return Moved::To(self.past(width));
+                return 0;
             }
-            return Moved::Refused(WINDOW_TOO_SHORT);
+            return WINDOW_TOO_SHORT;
         }
-        Moved::Refused(VALUE_TOO_LARGE)
+        VALUE_TOO_LARGE
+    }
+
+    // The same, with the cursor behind them.
+    pub fn write(self, octets: &mut [u8], value: u64, width: usize) -> Moved
+        ensures answer { λ r. ⌜ asMoved r ≡ writeField width value (now (octets .entry)) self .answer ⌝ }
+        ensures octets { λ r. ⌜ now (octets .exit) ≡ writeField width value (now (octets .entry)) self .octets ⌝ }
+    {
+        let n = self.store(octets, value, width);
+        if n == 0 {
+            return Moved::To(self.past(width));
+        }
+        Moved::Refused(n)
     }
 }
 
@@ -354,34 +375,54 @@ impl Digits {
     }
 }
 
-impl Moved {
+impl Place {
     // Writes what comes next; behind a refusal nothing is written.
-    pub fn put(self, octets: &mut [u8], d: Digits) -> Moved
-        ensures { λ r. ⌜ written (now (octets .exit)) (asMoved r) ≡ next (writeField (d .width) (d .value)) (written (now (octets .entry)) (asMoved self)) ⌝ }
+    pub fn put(self, octets: &mut [u8], d: Digits) -> Place
+        ensures { λ r. ⌜ written (now (octets .exit)) (asPlace r) ≡ next (writeField (d .width) (d .value)) (written (now (octets .entry)) (asPlace self)) ⌝ }
     {
-        let Moved::To(c) = self else {
-            return self;
-        };
-        c.write(octets, d.value, d.width)
+        if self.halt == 0 {
+            let c = Cursor {
+                at: self.at,
+                end: self.end,
+            };
+            let n = c.store(octets, d.value, d.width);
+            if n == 0 {
+                return Place {
+                    at: self.at + d.width,
+                    end: self.end,
+                    halt: 0,
+                };
+            }
+            return self.refuse(n);
+        }
+        self
     }
 
     // Whether `width` bits are left, in `len` octets; none behind a refusal.
     pub fn has(self, len: usize, width: usize) -> bool
-        ensures { λ r. ⌜ r ≡ roomFor width len (asMoved self) ⌝ }
+        ensures { λ r. ⌜ r ≡ roomFor width len (asPlace self) ⌝ }
     {
-        let Moved::To(c) = self else {
-            return false;
-        };
-        c.holds(len, width)
+        if self.halt == 0 {
+            let c = Cursor {
+                at: self.at,
+                end: self.end,
+            };
+            return c.holds(len, width);
+        }
+        false
     }
 
     // A refusal with a number; one that stands already stays as it is.
-    pub fn refuse(self, n: u8) -> Moved
-        ensures { λ r. ⌜ asMoved r ≡ refuse n (asMoved self) ⌝ }
+    pub fn refuse(self, n: u8) -> Place
+        ensures { λ r. ⌜ asPlace r ≡ refuse n (asPlace self) ⌝ }
     {
-        let Moved::To(_) = self else {
-            return self;
-        };
-        Moved::Refused(n)
+        if self.halt == 0 {
+            return Place {
+                at: self.at,
+                end: self.end,
+                halt: 256 + n as u64,
+            };
+        }
+        self
     }
 }

@@ -11,7 +11,6 @@ use Rattle.bits.specs.Reader.{Reader, got, _>>=_, field}
 use Rattle.elements.specs.Numbers.{isPresent, valueOr, held, optionAll, inWidth, u8Of, inU8, SameU8}
 use Rattle.elements.specs.declared.energy_saving_information.EnergySavingInformation.{EnergySavingInformation}
 use Rattle.elements.specs.declared.energy_saving_information.OptionalEnergySavingInformation.{OptionalEnergySavingInformation}
-use Rattle.elements.specs.declared.energy_saving_information.SavingAsked.{SavingAsked}
 
 abbrev pub savingModeWidth : ℕ
 savingModeWidth = 3
@@ -63,10 +62,6 @@ aliveHasNone e = not (eqb (e .«energy_saving_mode») stayAlive) || (not (isPres
 -- QUESTION 13: the other modes have both
 unfoldable pub othersHaveBoth : EnergySavingInformation → Bool
 othersHaveBoth e = eqb (e .«energy_saving_mode») stayAlive || (isPresent (frameIn e) && isPresent (multiframeIn e))
-
--- all three; what is absent passes them
-abbrev pub savingAsked : Option EnergySavingInformation → SavingAsked
-savingAsked o = record { fits = optionAll savingFits o; alive = optionAll aliveHasNone o; saving = optionAll othersHaveBoth o }
 
 unfoldable pub savingNormal : EnergySavingInformation → EnergySavingInformation
 savingNormal e = savingOf (e .«energy_saving_mode») (frameIn e) (multiframeIn e)

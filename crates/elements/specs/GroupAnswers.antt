@@ -1,6 +1,6 @@
 -- What the code's answers say of groups, lists, structures and small elements.
 use Prim.Native.Nat.{ℕ}
-use mathlib.Core.Bool.{Bool}
+use mathlib.Core.Bool.{Bool, true, false}
 use mathlib.Core.Option.{Option, none, some}
 use Rattle.bits.specs.Reader.{Reader, got, _>>=_, optional}
 use Rattle.bits.specs.Placed.{Placed, placed, halted}
@@ -97,6 +97,11 @@ downlinksAnswer = answerOf (λ v l. record { verdict = v; list = l }) (listOf do
 -- the slot of a list inside a structure
 unfoldable pub nestedSlot : {G L : Type 0} → Groups G L → ℕ → Reader L
 nestedSlot k i = slot (λ i. i) (λ i. list k) i >>= λ o. got (valueOr (listOf k none) o)
+
+-- the same where there is such a slot
+abbrev pub nestedSlotIf : {G L : Type 0} → Groups G L → ℕ → Bool → Reader L
+nestedSlotIf k i true = nestedSlot k i
+nestedSlotIf k i false = got (listOf k none)
 
 abbrev pub locationDemandAnswer : Placed GroupIdentityLocationDemand → LocationDemandRead
 locationDemandAnswer = answerOf (λ v d. record { verdict = v; location = d }) noLocationDemand

@@ -22,6 +22,7 @@ pub mod Kinds
 pub mod KindsLaws
 pub mod Numbered
 pub mod Rows
+pub mod Fronts
 pub mod Answers
 pub mod GroupAnswers
 pub mod Verdicts
@@ -32,6 +33,3 @@ pub mod PlacedLists
 pub mod PlacedLocations
 pub mod Parts
 pub mod EachLaws
-pub mod GroupParts
-pub mod GroupsAsked
-pub mod WrittenElements

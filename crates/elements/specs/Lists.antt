@@ -58,13 +58,19 @@ module _ {G L : Type 0} (k : Groups G L) where
   abbrev pub padded : List G → List G
   padded gs = gs ++ replicate (entriesMost - length gs) (k .zero)
 
+  abbrev pub listAs : Bool → List G → L
+  listAs p gs = k .make p (length gs) (padded gs)
+
   abbrev pub listOf : Option (List G) → L
-  listOf none = k .make false 0 (padded [])
-  listOf (some gs) = k .make true (length gs) (padded gs)
+  listOf none = listAs false []
+  listOf (some gs) = listAs true gs
 
   -- m groups, as a list
+  abbrev pub groupsAs : Bool → ℕ → Reader L
+  groupsAs p m = times m (k .group) >>= λ gs. got (listAs p gs)
+
   abbrev pub groupsRead : ℕ → Reader L
-  groupsRead m = times m (k .group) >>= λ gs. got (listOf (some gs))
+  groupsRead = groupsAs true
 
   -- the content of a list element of n bits
   unfoldable pub list : ℕ → Reader L

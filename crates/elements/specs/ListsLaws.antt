@@ -17,7 +17,7 @@ use Rattle.elements.specs.NumbersLaws.{never, both, same-map}
 use Rattle.elements.specs.GroupsLaws.{uplink-local, uplink-back, uplink-same, uplink-normal-same, uplink-own, downlink-local, downlink-back, downlink-same, downlink-normal-same, downlink-own}
 use Rattle.elements.specs.Generics.{entriesWidth}
 use Rattle.elements.specs.GenericsLaws.{entries-back, entries-got, exactly-back, entries-passes}
-use Rattle.elements.specs.Lists.{entriesMost, each, all, Each, both-end, one-more, Groups, padded, listOf, groupsRead, list, listBits, listFits, listOne, listListed, listNormal, SameList, uplinks, downlinks}
+use Rattle.elements.specs.Lists.{entriesMost, each, all, Each, both-end, one-more, Groups, padded, listOf, groupsAs, groupsRead, list, listBits, listFits, listOne, listListed, listNormal, SameList, uplinks, downlinks}
 
 -- what the laws below ask of a kind of group, and of the list that holds such groups
 pub record Sound {G L : Type 0} (k : Groups G L) : Type 0 where
@@ -61,8 +61,8 @@ downlinks-sound = record {
 module _ {G L : Type 0} {k : Groups G L} (s : Sound k) where
   -- ## what a list's reader uses
 
-  pub entries-local : (m : ℕ) → Local (groupsRead k m)
-  entries-local m = bind-local (times m (k .group)) _ (times-local m (k .group) (s .local)) (λ gs. got-local _)
+  pub entries-local : (p : Bool) (m : ℕ) → Local (groupsAs k p m)
+  entries-local p m = bind-local (times m (k .group)) _ (times-local m (k .group) (s .local)) (λ gs. got-local _)
 
   pub list-local : (n : ℕ) → Local (list k n)
   unfolding list
@@ -70,7 +70,7 @@ module _ {G L : Type 0} {k : Groups G L} (s : Sound k) where
 
   pub list-passes : (n : ℕ) → Passes n (list k n)
   unfolding list
-  list-passes n = entries-passes (λ m n. exactly n (groupsRead k m)) (λ m n. exactly-passes n (groupsRead k m) (local-tail (entries-local m))) n
+  list-passes n = entries-passes (λ m n. exactly n (groupsRead k m)) (λ m n. exactly-passes n (groupsRead k m) (local-tail (entries-local true m))) n
 
   -- ## reading back
 

@@ -1,39 +1,45 @@
 -- Lists of groups, read at a cursor: for any kind of group.
-use Prim.Native.Nat.{ℕ, _+_, _-_, _≤_, _<_}
+use Prim.Native.Nat.{ℕ, _+_, _-_, _≤_, _<_, _^_}
 use native.Mathlib.Omega.{arith}
-use mathlib.Core.Path.{_≡_, refl, _∙_}
-use mathlib.Core.Bool.{true}
-use mathlib.Core.Option.{some}
+use mathlib.Core.Path.{_≡_, refl, sym, _∙_, ap}
+use mathlib.Core.Bool.{Bool, true, false}
+use mathlib.Core.Option.{none, some}
 use mathlib.Core.List.{List, _++_}
 use lib.ListN.{length, take, drop, set, replicate, length-set}
 use lib.Seq.{length-take-le}
-use lib.Dec.{leb}
-use borrow.Author.Tests.{le-leb, lt-leb}
+use lib.Dec.{leb, eqb}
+use borrow.Author.Tests.{le-leb, lt-leb, eq-eqb}
 use Rattle.bits.specs.Bits.{Bits}
-use Rattle.bits.specs.PduParseError.{type4Underflow}
-use Rattle.bits.specs.Reader.{Reader, _>>=_, field, unless, exactly, Tail}
-use Rattle.bits.specs.ReaderLaws.{then-then, then-same, local-tail, field-local, unless-local}
-use Rattle.bits.specs.Placed.{Placed, placed, halted, at}
-use Rattle.bits.specs.PlacedLaws.{Gives, step, stop}
-use Rattle.bits.specs.PlacedTimes.{passed, failed, gathered, gathered-none, turned, turned-not, set-behind, padded-array}
+use Rattle.bits.specs.PduParseError.{type4Underflow, inconsistentLength}
+use Rattle.bits.specs.Reader.{Answer, got, refused, Reader, then, _>>=_, field, unless, times, Tail}
+use Rattle.bits.specs.ReaderLaws.{then-then, then-same, split-then, refused-got, local·rules, local-tail, field-local, field-lt, unless-local, bind-tail}
+use Rattle.bits.specs.Placed.{window, Placed, placed, halted, at}
+use Rattle.bits.specs.PlacedLaws.{Gives, told, step, stop}
+use Rattle.bits.specs.PlacedTimes.{alike, exact, inexact, exact-stop, passed, failed, gathered, gathered-none, turned, turned-not, set-behind, padded-array}
 use Rattle.bits.specs.declared.bitbuffer.Cursor.{Cursor}
 use Rattle.elements.specs.Generics.{entriesWidth, entries}
-use Rattle.elements.specs.Table.{lengthWidth}
-use Rattle.elements.specs.Lists.{Groups, listOf, groupsRead, list, entriesMost}
+use Rattle.elements.specs.Numbers.{valueOr}
+use Rattle.elements.specs.Table.{lengthWidth, Look, outside, ends, opens, look, Header, header, slot-if, slot-at, slot}
+use Rattle.elements.specs.TableLaws.{slot-tail}
+use Rattle.elements.specs.Lists.{Groups, listAs, listOf, groupsAs, list, entriesMost}
+use Rattle.elements.specs.ListsLaws.{Sound, entries-local}
 use Rattle.elements.specs.Rows.{sized}
+use Rattle.elements.specs.Fronts.{noFront, frontOf, frontAt, listFront, behindFront}
+use Rattle.elements.specs.GroupAnswers.{nestedSlot, nestedSlotIf}
+use Rattle.elements.specs.declared.typed_pdu_fields.ListFront.{ListFront}
 
 -- ## a loop that fills the array
 
-module _ {G L : Type 0} (k : Groups G L) where
+module _ {G L : Type 0} (k : Groups G L) (p : Bool) where
   -- a list of these groups
   abbrev listed : List G → L
-  listed gs = listOf k (some gs)
+  listed = listAs k p
 
   -- A LOOP THAT READS n GROUPS from c on stands at `place`: i of them are read, and stand at the front of the array
   pub record Filled (os : List ℕ) (n : ℕ) (c : Cursor) (groups : List G) (place : Cursor) (i : ℕ) : Type 0 where
     pub few : i ≤ n
     pub long : length groups ≡ entriesMost
-    pub rest : at (groupsRead k n) os c ≡ at (gathered listed (k .group) (n - i) (take i groups)) os place
+    pub rest : at (groupsAs k p n) os c ≡ at (gathered listed (k .group) (n - i) (take i groups)) os place
     pub zeros : drop i groups ≡ drop i (replicate entriesMost (k .zero))
 
   module _ {os : List ℕ} {n : ℕ} {c : Cursor} where
@@ -41,7 +47,7 @@ module _ {G L : Type 0} (k : Groups G L) where
     filled-none = let e : n - 0 ≡ n = omega arith in record { few = omega arith; long = refl; rest = rw e; zeros = refl }
 
     module _ {groups : List G} {place : Cursor} {i : ℕ} (f : Filled os n c groups place i) where
-      pub filled-more : {g : G} {next : Cursor} → i < n → n ≤ entriesMost → Tail (k .group) → Gives (k .group) os place (placed g next)
+      filled-more : {g : G} {next : Cursor} → i < n → n ≤ entriesMost → Tail (k .group) → Gives (k .group) os place (placed g next)
           → Filled os n c (set groups i g) next (i + 1)
       filled-more {g} {next} h m lg e =
           let l : length groups ≡ entriesMost = f .long in
@@ -52,20 +58,20 @@ module _ {G L : Type 0} (k : Groups G L) where
             zeros = set-behind (k .zero) groups (replicate entriesMost (k .zero)) i g (f .zeros);
           }
 
-      pub filled-not : {m : ℕ} → i < n → Gives (k .group) os place (halted m) → Gives (groupsRead k n) os c (halted m)
+      filled-not : {m : ℕ} → i < n → Gives (k .group) os place (halted m) → Gives (groupsAs k p n) os c (halted m)
       filled-not {m} h e = record { eq = f .rest ∙ turned-not listed (k .group) os place i n groups h m e }
 
-      pub filled-all : n ≤ i → n ≤ entriesMost → Gives (groupsRead k n) os c (placed (k .make true n groups) place)
+      filled-all : n ≤ i → n ≤ entriesMost → Gives (groupsAs k p n) os c (placed (k .make p n groups) place)
       filled-all h m =
-          let w : i ≤ n = f .few in
+          let few : i ≤ n = f .few in
           let l : length groups ≡ entriesMost = f .long in
           let q : i ≡ n = omega arith in
           let z : n - i ≡ 0 = omega arith in
           let t : length (take i groups) ≡ i = length-take-le i groups (omega arith) in
-          let p : take i groups ++ replicate (entriesMost - length (take i groups)) (k .zero) ≡ groups = rw t (padded-array (k .zero) groups i entriesMost (f .zeros)) in
+          let w : take i groups ++ replicate (entriesMost - length (take i groups)) (k .zero) ≡ groups = rw t (padded-array (k .zero) groups i entriesMost (f .zeros)) in
           let e : at (gathered listed (k .group) (n - i) (take i groups)) os place ≡ placed (listed (take i groups)) place =
           rw z (gathered-none listed (k .group) os place (take i groups)) in
-          record { eq = f .rest ∙ e ∙ (λ j. placed (k .make true ((t ∙ q) j) (p j)) place) }
+          record { eq = f .rest ∙ e ∙ (λ j. placed (k .make p ((t ∙ q) j) (w j)) place) }
 
 -- ## an element that begins with its number of entries, from its length on
 
@@ -87,30 +93,116 @@ module _ {A : Type 0} (r : ℕ → ℕ → Reader A) {os : List ℕ} {c : Cursor
     entries-there h e = behind-number (step _ (passed type4Underflow (le-leb entriesWidth n h)) (local-tail (unless-local (leb entriesWidth n) type4Underflow)) e)
 
 -- the entries made into another value
-pub entries-made : {A B : Type 0} (r : ℕ → ℕ → Reader A) (f : A → Reader B) (bs : Bits)
-    → sized (λ n. entries r n >>= f) bs ≡ sized (entries (λ m n. r m n >>= f)) bs
-entries-made r f bs =
-    then-same (field lengthWidth bs) (λ n rest.
-    then-then (field entriesWidth rest) _ f ∙ then-same (field entriesWidth rest) (λ m end. then-then (unless (leb entriesWidth n) type4Underflow end) _ f))
+module _ {A B : Type 0} (r : ℕ → ℕ → Reader A) (f : A → Reader B) where
+  entries-then : (n : ℕ) (bs : Bits) → (entries r n >>= f) bs ≡ entries (λ m n. r m n >>= f) n bs
+  entries-then n bs = then-then (field entriesWidth bs) _ f ∙ then-same (field entriesWidth bs) (λ m end. then-then (unless (leb entriesWidth n) type4Underflow end) _ f)
 
--- ## a list of groups from its length on
+  pub entries-made : (bs : Bits) → sized (λ n. entries r n >>= f) bs ≡ sized (entries (λ m n. r m n >>= f)) bs
+  entries-made bs = then-same (field lengthWidth bs) entries-then
 
--- m groups in n bits
-abbrev groupsIn : {G L : Type 0} → Groups G L → ℕ → ℕ → Reader L
-groupsIn k m n = exactly n (groupsRead k m)
+-- ## a list's slot, by its front and its groups
 
-module _ {G L : Type 0} (k : Groups G L) {os : List ℕ} {c : Cursor} where
-  module _ {n : ℕ} {c₁ : Cursor} (e₁ : Gives (field lengthWidth) os c (placed n c₁)) where
-    pub no-number : {m : ℕ} → Gives (field entriesWidth) os c₁ (halted m) → Gives (sized (list k)) os c (halted m)
-    unfolding list
-    no-number e = entries-unnumbered (groupsIn k) e₁ e
+-- a value where there is one
+there : {A : Type 0} (d : A) (y : Answer A) → then (then y (λ a. got (some a))) (λ o. got (valueOr d o)) ≡ y
+there d (got a rest) = refl
+there d (refused n) = refl
 
-    module _ {m : ℕ} {c₂ : Cursor} (e₂ : Gives (field entriesWidth) os c₁ (placed m c₂)) where
-      pub underflow : n < entriesWidth → Gives (sized (list k)) os c (halted type4Underflow)
-      unfolding list
-      underflow h = entries-underflow (groupsIn k) e₁ e₂ h
+-- a front counts no more groups than there is room for
+front-few : (i : ℕ) (b : Bool) (bs : Bits) {f : ListFront} {rest : Bits} → listFront i b bs ≡ got f rest → f .count ≤ entriesMost
+unfolding listFront
+front-few i false bs {f} e = let h : noFront ≡ f = cc in rw (← h) (omega arith)
+front-few i true bs {f} {rest} e = go (look bs) e
+  where
+    absent : got noFront bs ≡ got f rest → f .count ≤ entriesMost
+    absent e = let h : noFront ≡ f = cc in rw (← h) (omega arith)
 
-      module _ (h : entriesWidth ≤ n) where
-        pub held-to : {x : Placed L} → Gives (exactly (n - entriesWidth) (groupsRead k m)) os c₂ x → Gives (sized (list k)) os c x
-        unfolding list
-        held-to e = entries-there (groupsIn k) e₁ e₂ h e
+    tested : (m n : ℕ) (b : Bool) (mid : Bits) → m < 2 ^ entriesWidth → then (unless b type4Underflow mid) (λ z. frontOf m n) ≡ got f rest
+        → f .count ≤ entriesMost
+    tested m n true mid l e = let h : m ≡ f .count = cc in omega arith
+    tested m n false mid l e = refused-got e
+
+    headed : (y : Answer Header) → then (then (then y (λ h. frontAt (h .size))) (λ f. got (some f))) (λ o. got (valueOr noFront o)) ≡ got f rest → f .count ≤ entriesMost
+    headed (got h mid) e =
+        split-then (field entriesWidth mid) _ (sym (there noFront (frontAt (h .size) mid)) ∙ e) (λ m end p q.
+        tested m (h .size - entriesWidth) (leb entriesWidth (h .size)) end (field-lt entriesWidth mid p) q)
+    headed (refused n) e = refused-got e
+
+    own : (b : Bool) → then (slot-if (λ i. i) (λ i. frontAt) i b bs) (λ o. got (valueOr noFront o)) ≡ got f rest → f .count ≤ entriesMost
+    own true e = headed (header bs) e
+    own false e = absent e
+
+    go : (l : Look) → then (slot-at (λ i. i) (λ i. frontAt) i l bs) (λ o. got (valueOr noFront o)) ≡ got f rest → f .count ≤ entriesMost
+    go outside e = refused-got e
+    go ends e = absent e
+    go (opens j) e = own (eqb j i) e
+
+front-tail : (i : ℕ) (b : Bool) → Tail (listFront i b)
+unfolding listFront
+front-tail i true = bind-tail (slot (λ i. i) (λ i. frontAt) i) _ (slot-tail (λ i. i) (λ i. frontAt) (λ j n. search local·rules depth 8) i) (λ o. search local·rules)
+front-tail i false = search local·rules
+
+module _ {G L : Type 0} (k : Groups G L) (i : ℕ) where
+  -- no groups, in no bits
+  none-behind : (bs : Bits) → behindFront k noFront bs ≡ got (listOf k none) bs
+  unfolding times
+  none-behind bs = rw (eq-eqb (length bs) (0 + length bs) (omega arith))
+
+  -- where the list is there
+  groups-behind : (y : Answer Header) → then (then (then y (λ h. list k (h .size))) (λ l. got (some l))) (λ o. got (valueOr (listOf k none) o))
+      ≡ then (then (then (then y (λ h. frontAt (h .size))) (λ f. got (some f))) (λ o. got (valueOr noFront o))) (behindFront k)
+  unfolding list
+  groups-behind (got h rest) =
+      there (listOf k none) (list k (h .size) rest)
+      ∙ sym (entries-then frontOf (behindFront k) (h .size) rest)
+      ∙ ap (λ y. then y (behindFront k)) (sym (there noFront (frontAt (h .size) rest)))
+  groups-behind (refused n) = refl
+
+  slot-behind : (b : Bool) (bs : Bits) → nestedSlotIf k i b bs ≡ (listFront i b >>= behindFront k) bs
+  unfolding nestedSlot listFront
+  slot-behind true bs = go (look bs)
+    where
+      own : (b : Bool) → then (slot-if (λ i. i) (λ i. list k) i b bs) (λ o. got (valueOr (listOf k none) o))
+          ≡ then (then (slot-if (λ i. i) (λ i. frontAt) i b bs) (λ o. got (valueOr noFront o))) (behindFront k)
+      own true = groups-behind (header bs)
+      own false = sym (none-behind bs)
+
+      go : (l : Look) → then (slot-at (λ i. i) (λ i. list k) i l bs) (λ o. got (valueOr (listOf k none) o))
+          ≡ then (then (slot-at (λ i. i) (λ i. frontAt) i l bs) (λ o. got (valueOr noFront o))) (behindFront k)
+      go outside = refl
+      go ends = sym (none-behind bs)
+      go (opens j) = own (eqb j i)
+  slot-behind false bs = sym (none-behind bs)
+
+  module _ (b : Bool) {os : List ℕ} {c : Cursor} where
+    pub no-front : {n : ℕ} → Gives (listFront i b) os c (halted n) → Gives (nestedSlotIf k i b) os c (halted n)
+    no-front e = alike (listFront i b >>= behindFront k) (slot-behind b _) (stop _ e)
+
+-- A LIST'S SLOT, read by a loop behind its front: it stands at `place`, with j groups read
+module _ {G L : Type 0} {k : Groups G L} (s : Sound k) (i : ℕ) (b : Bool) {os : List ℕ} {c : Cursor} {f : ListFront} {c₁ : Cursor}
+    (e : Gives (listFront i b) os c (placed f c₁)) {groups : List G} {place : Cursor} {j : ℕ} (l : Filled k (f .present) os (f .count) c₁ groups place j) where
+  pub few : f .count ≤ entriesMost
+  few = front-few i b (window os c) (told (front-tail i b) e .said)
+
+  behind : {x : Placed L} → Gives (behindFront k f) os c₁ x → Gives (nestedSlotIf k i b) os c x
+  behind g = alike (listFront i b >>= behindFront k) (slot-behind k i b _) (step _ e (front-tail i b) g)
+
+  module _ (h : j < f .count) where
+    pub group-refused : {m : ℕ} → Gives (k .group) os place (halted m) → Gives (nestedSlotIf k i b) os c (halted m)
+    group-refused g = behind (exact-stop _ (filled-not k _ l h g))
+
+    pub group-read : {g : G} {next : Cursor} → Gives (k .group) os place (placed g next) → Filled k (f .present) os (f .count) c₁ (set groups j g) next (j + 1)
+    group-read g = filled-more k _ l h few (local-tail (s .local)) g
+
+  module _ (h : f .count ≤ j) where
+    all-there : Gives (groupsAs k (f .present) (f .count)) os c₁ (placed (k .make (f .present) (f .count) groups) place)
+    all-there = filled-all k _ l h few
+
+    -- it ends behind where it begins
+    pub list-on : c₁ .at ≤ place .at
+    list-on = told (local-tail (entries-local s _ _)) all-there .on
+
+    pub list-whole : place .at - c₁ .at ≡ f .len → Gives (nestedSlotIf k i b) os c (placed (k .make (f .present) (f .count) groups) place)
+    list-whole q = behind (exact _ all-there (local-tail (entries-local s _ _)) q)
+
+    pub list-inexact : (place .at - c₁ .at ≡ f .len → ⊥) → Gives (nestedSlotIf k i b) os c (halted inconsistentLength)
+    list-inexact q = behind (inexact _ all-there (local-tail (entries-local s _ _)) q)

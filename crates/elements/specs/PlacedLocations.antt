@@ -6,7 +6,6 @@ use mathlib.Core.Bool.{Bool, true, false}
 use mathlib.Core.Option.{Option, none, some}
 use mathlib.Core.List.{List, []}
 use lib.Dec.{eqb}
-use borrow.Author.Tests.{eq-eqb, ne-eqb}
 use Rattle.bits.specs.PduParseError.{inconsistentLength}
 use Rattle.bits.specs.Bits.{Bits}
 use Rattle.bits.specs.Reader.{Answer, got, refused, Reader, then, _>>=_, field, exactly, Tail}
@@ -23,23 +22,12 @@ use Rattle.elements.specs.ListsLaws.{Sound, list-local}
 use Rattle.elements.specs.Locations.{nested-if, nested}
 use Rattle.elements.specs.LocationsLaws.{nested-local}
 use Rattle.elements.specs.Kinds.{Kind, ofDownlinks, row, Element, isDownlinks, heldElement, contentOf, identifierOf, content}
-use Rattle.elements.specs.Rows.{sized}
+use Rattle.elements.specs.Rows.{sized, emptyTable}
 use Rattle.elements.specs.Answers.{opening}
-use Rattle.elements.specs.GroupAnswers.{nestedSlot, downlinksSlot}
+use Rattle.elements.specs.GroupAnswers.{nestedSlot, nestedSlotIf, downlinksSlot}
 use Rattle.elements.specs.PlacedTable.{slot-there, sized-made}
 use Rattle.elements.specs.declared.typed_pdu_fields.OptionalU8.{OptionalU8}
 use Rattle.elements.specs.declared.group_identity_downlink.OptionalDownlinks.{OptionalDownlinks}
-
--- a value that is given as it is
-pub kept : {A : Type 0} (r : Reader A) (bs : Bits) → (r >>= λ a. got a) bs ≡ r bs
-kept {A} r bs = go (r bs)
-  where
-    go : (y : Answer A) → then y (λ a. got a) ≡ y
-    go (got a rest) = refl
-    go (refused n) = refl
-
-pub sized-kept : {A : Type 0} (r : ℕ → Reader A) (bs : Bits) → sized (λ n. r n >>= λ a. got a) bs ≡ sized r bs
-sized-kept r bs = λ j. sized (λ n rest. kept (r n) rest j) bs
 
 -- ## a list inside a structure
 
@@ -52,32 +40,40 @@ nested-slot {G} {L} k i bs =
     ∙ then-same x (λ o rest. then-then ((closing >>= λ z. got (counted 0 [])) rest) _ _ ∙ then-then (closing rest) _ _)
     ∙ sym (then-then x _ _)
 
+-- and by the O-bit
+nested-behind : {G L : Type 0} (k : Groups G L) (i : ℕ) (b : Bool) (bs : Bits) → nested-if k i b bs ≡ (nestedSlotIf k i b >>= λ l. emptyTable b >>= λ z. got l) bs
+nested-behind k i true bs = nested-slot k i bs
+nested-behind k i false bs = refl
+
+pub empty-tail : (b : Bool) → Tail (emptyTable b)
+empty-tail true = local-tail closing-local
+empty-tail false = search local·rules
+
 module _ {G L : Type 0} {k : Groups G L} (s : Sound k) (i : ℕ) where
-  nested-slot-tail : Tail (nestedSlot k i)
+  nested-slot-tail : (b : Bool) → Tail (nestedSlotIf k i b)
   unfolding nestedSlot
-  nested-slot-tail = bind-tail (slot (λ i. i) (λ i. list k) i) _ (slot-tail (λ i. i) (λ i. list k) (λ j n. list-local s n) i) (λ o. search local·rules)
+  nested-slot-tail true = bind-tail (slot (λ i. i) (λ i. list k) i) _ (slot-tail (λ i. i) (λ i. list k) (λ j n. list-local s n) i) (λ o. search local·rules)
+  nested-slot-tail false = search local·rules
 
-  module _ {os : List ℕ} {c c₁ : Cursor} {o : ℕ} (e₁ : Gives (field flagWidth) os c (placed o c₁)) where
-    pub no-list : (o ≡ 1 → ⊥) → Gives (nested k i) os c (placed (listOf k none) c₁)
+  module _ {os : List ℕ} {c : Cursor} where
+    pub list-unannounced : {n : ℕ} → Gives (field flagWidth) os c (halted n) → Gives (nested k i) os c (halted n)
     unfolding nested
-    no-list h = step _ e₁ (local-tail (field-local flagWidth)) (rw (ne-eqb o 1 h) done)
+    list-unannounced e = stop _ e
 
-    module _ (h : o ≡ 1) where
-      announced-list : {x : Placed L} → Gives (nestedSlot k i >>= λ l. closing >>= λ z. got l) os c₁ x → Gives (nested k i) os c x
+    module _ {c₁ : Cursor} {o : ℕ} (e₁ : Gives (field flagWidth) os c (placed o c₁)) where
+      behind-obit : {x : Placed L} → Gives (nestedSlotIf k i (eqb o 1) >>= λ l. emptyTable (eqb o 1) >>= λ z. got l) os c₁ x → Gives (nested k i) os c x
       unfolding nested
-      announced-list g =
-          step _ e₁ (local-tail (field-local flagWidth))
-          (rw (eq-eqb o 1 h) (alike (nestedSlot k i >>= λ l. closing >>= λ z. got l) (nested-slot k i (window os c₁)) g))
+      behind-obit g = step _ e₁ (local-tail (field-local flagWidth)) (alike _ (nested-behind k i (eqb o 1) (window os c₁)) g)
 
-      pub list-refused : {n : ℕ} → Gives (nestedSlot k i) os c₁ (halted n) → Gives (nested k i) os c (halted n)
-      list-refused e = announced-list (stop _ e)
+      pub list-refused : {n : ℕ} → Gives (nestedSlotIf k i (eqb o 1)) os c₁ (halted n) → Gives (nested k i) os c (halted n)
+      list-refused e = behind-obit (stop _ e)
 
-      module _ {l : L} {c₂ : Cursor} (e₂ : Gives (nestedSlot k i) os c₁ (placed l c₂)) where
-        pub list-unclosed : {n : ℕ} → Gives closing os c₂ (halted n) → Gives (nested k i) os c (halted n)
-        list-unclosed e = announced-list (step _ e₂ nested-slot-tail (stop _ e))
+      module _ {l : L} {c₂ : Cursor} (e₂ : Gives (nestedSlotIf k i (eqb o 1)) os c₁ (placed l c₂)) where
+        pub list-unclosed : {n : ℕ} → Gives (emptyTable (eqb o 1)) os c₂ (halted n) → Gives (nested k i) os c (halted n)
+        list-unclosed e = behind-obit (step _ e₂ (nested-slot-tail (eqb o 1)) (stop _ e))
 
-        pub list-closed : {c₃ : Cursor} → Gives closing os c₂ (placed tt c₃) → Gives (nested k i) os c (placed l c₃)
-        list-closed e = announced-list (step _ e₂ nested-slot-tail (step _ e (local-tail closing-local) done))
+        pub list-closed : {c₃ : Cursor} → Gives (emptyTable (eqb o 1)) os c₂ (placed tt c₃) → Gives (nested k i) os c (placed l c₃)
+        list-closed e = behind-obit (step _ e₂ (nested-slot-tail (eqb o 1)) (step _ e (empty-tail (eqb o 1)) done))
 
 -- ## a structure of n bits: behind its front, at c₂, the list
 

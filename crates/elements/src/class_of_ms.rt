@@ -1,18 +1,13 @@
 // Class of MS (EN 300 392-2, clause 16.10.5): 24 bits, top bit first.
 ghost use mathlib.Core.Path.{_≡_};
-ghost use mathlib.Core.Option.{some};
-ghost use Prim.Native.Nat.{_^_, _<_};
 ghost use Rattle.bits.specs.Placed.{at, refusal};
-ghost use Rattle.bits.specs.Written.{Holds};
-ghost use Rattle.elements.specs.Numbers.{type2As, type2Bits, held, optionAll};
-ghost use Rattle.elements.specs.ClassOfMs.{classOf, classWidths, noClass, classOption, classOfMs, classFields, classBits, classFits};
+ghost use Rattle.elements.specs.Numbers.{type2As};
+ghost use Rattle.elements.specs.ClassOfMs.{classOf, classWidths, noClass, classOption, classOfMs};
 ghost use Rattle.elements.specs.ClassOfMsLaws.{split};
 ghost use Rattle.elements.specs.GroupAnswers.{asClass};
 use bits::bitbuffer::Cursor;
-use bits::bitbuffer::Digits;
 use bits::bitbuffer::Field8;
 use bits::bitbuffer::Field32;
-use bits::bitbuffer::NO_DIGITS;
 
 #[repr(C)]
 pub struct ClassOfMs {
@@ -151,128 +146,4 @@ pub fn parse_type2_class_of_ms(c: Cursor, octets: &[u8]) -> ClassRead
         },
         c1,
     )
-}
-
-// ## writing
-
-// How many bits each field has.
-const WIDTHS: [usize; 22] = [
-    1,
-    1,
-    1,
-    1,
-    1,
-    1,
-    1,
-    1,
-    1,
-    1,
-    1,
-    1,
-    1,
-    1,
-    1,
-    1,
-    3,
-    1,
-    1,
-    1,
-    1,
-    1,
-];
-
-// The fields in order.
-pub fn fields_of(m: ClassOfMs) -> [u8; 22]
-    ensures { λ r. ⌜ r ≡ classFields m ⌝ }
-{
-    [
-        m.freq_simplex_duplex,
-        m.multislot_phase_mod,
-        m.concurrent_multicarrier,
-        m.voice,
-        m.e2e_encryption_not_supported,
-        m.circuit_mode_data,
-        m.tetra_packet_data,
-        m.fast_switching,
-        m.dck_encryption,
-        m.clch_needed,
-        m.concurrent_circuit_mode,
-        m.original_advanced_link,
-        m.minimum_mode,
-        m.carrier_specific_signalling,
-        m.authentication,
-        m.sck_encryption,
-        m.air_interface_version,
-        m.common_scch,
-        m.reserved_21,
-        m.mac_d_blck,
-        m.extended_advanced_link,
-        m.d8psk,
-    ]
-}
-
-// P-bit 1, and the fields.
-fn present_class(m: ClassOfMs) -> Digits
-    ensures { λ r. ⌜ Holds r (type2Bits classBits (some m)) ⌝ }
-{
-    let values = fields_of(m);
-    let mut d = NO_DIGITS.then(1, 1);
-    let mut i: usize = 0;
-    while i < 22 {
-        d = d.then(values[i] as u64, WIDTHS[i]);
-        i += 1;
-    }
-    d
-}
-
-// A type 2 element: the P-bit, and the class of MS if it is present.
-pub fn type2_class(o: OptionalClassOfMs) -> Digits
-    ensures { λ r. ⌜ Holds r (type2Bits classBits (held (o .present) (o .value))) ⌝ }
-{
-    let m = o.value;
-    if o.present {
-        return present_class(m);
-    }
-    NO_DIGITS.then(0, 1)
-}
-
-impl ClassOfMs {
-    // Question 8: whether each field is in its width.
-    fn fits(self) -> bool
-        ensures { λ r. ⌜ r ≡ classFits self ⌝ }
-    {
-        (self.freq_simplex_duplex < 2)
-            & (self.multislot_phase_mod < 2)
-            & (self.concurrent_multicarrier < 2)
-            & (self.voice < 2)
-            & (self.e2e_encryption_not_supported < 2)
-            & (self.circuit_mode_data < 2)
-            & (self.tetra_packet_data < 2)
-            & (self.fast_switching < 2)
-            & (self.dck_encryption < 2)
-            & (self.clch_needed < 2)
-            & (self.concurrent_circuit_mode < 2)
-            & (self.original_advanced_link < 2)
-            & (self.minimum_mode < 2)
-            & (self.carrier_specific_signalling < 2)
-            & (self.authentication < 2)
-            & (self.sck_encryption < 2)
-            & (self.air_interface_version < 8)
-            & (self.common_scch < 2)
-            & (self.reserved_21 < 2)
-            & (self.mac_d_blck < 2)
-            & (self.extended_advanced_link < 2)
-            & (self.d8psk < 2)
-    }
-}
-
-// The same of a class of MS that may be absent.
-pub fn class_fits(o: OptionalClassOfMs) -> bool
-    ensures { λ r. ⌜ r ≡ optionAll classFits (held (o .present) (o .value)) ⌝ }
-{
-    let m = o.value;
-    if o.present {
-        return m.fits();
-    }
-    true
 }

@@ -1,17 +1,13 @@
 // Energy saving information (EN 300 392-2, clause 16.10.10).
 ghost use mathlib.Core.Path.{_≡_};
 ghost use Rattle.bits.specs.Placed.{at, refusal};
-ghost use Rattle.bits.specs.Written.{Holds};
-ghost use Rattle.elements.specs.Numbers.{type2As, type2Bits, held, valueOr, inU8};
-ghost use Rattle.elements.specs.EnergySaving.{energySaving, noSaving, savingOption, savingBits, savingAsked};
+ghost use Rattle.elements.specs.Numbers.{type2As};
+ghost use Rattle.elements.specs.EnergySaving.{energySaving, noSaving, savingOption};
 ghost use Rattle.elements.specs.GroupAnswers.{asSaving, asOptionalSaving};
 use crate::energy_saving_mode::STAY_ALIVE;
-use crate::group_address::below_if;
 use crate::typed_pdu_fields::OptionalU8;
 use bits::bitbuffer::Cursor;
-use bits::bitbuffer::Digits;
 use bits::bitbuffer::Field8;
-use bits::bitbuffer::NO_DIGITS;
 
 #[repr(C)]
 pub struct EnergySavingInformation {
@@ -140,64 +136,4 @@ pub fn parse_type2_energy_saving(c: Cursor, octets: &[u8]) -> OptionalSavingRead
         },
         c1,
     )
-}
-
-// ## writing
-
-// An absent number is written 0.
-fn or_zero(o: OptionalU8) -> u64
-    ensures { λ r. ⌜ r ≡ valueOr 0 (inU8 o) ⌝ }
-{
-    if o.present {
-        return o.value as u64;
-    }
-    0
-}
-
-// A type 2 element: the P-bit, and the energy saving information if it is present.
-pub fn type2_saving(o: OptionalEnergySavingInformation) -> Digits
-    ensures { λ r. ⌜ Holds r (type2Bits savingBits (held (o .present) (o .value))) ⌝ }
-{
-    let e = o.value;
-    if o.present {
-        let frame = e.frame_number;
-        let multiframe = e.multiframe_number;
-        let p = NO_DIGITS.then(1, 1);
-        let m = p.then(e.energy_saving_mode as u64, 3);
-        let f = m.then(or_zero(frame), 5);
-        return f.then(or_zero(multiframe), 6);
-    }
-    NO_DIGITS.then(0, 1)
-}
-
-// What questions 8, 12 and 13 find.
-pub struct SavingAsked {
-    pub fits: bool,
-    pub alive: bool,
-    pub saving: bool,
-}
-
-// The questions; what is absent passes them.
-pub fn ask_saving(o: OptionalEnergySavingInformation) -> SavingAsked
-    ensures { λ r. ⌜ r ≡ savingAsked (held (o .present) (o .value)) ⌝ }
-{
-    let e = o.value;
-    if o.present {
-        let frame = e.frame_number;
-        let multiframe = e.multiframe_number;
-        let mode = e.energy_saving_mode;
-        let f = frame.present;
-        let n = multiframe.present;
-        return SavingAsked {
-            fits: (mode < 8)
-                & (below_if(f, frame.value as u32, 32) & below_if(n, multiframe.value as u32, 64)),
-            alive: (mode != STAY_ALIVE) | (!f & !n),
-            saving: (mode == STAY_ALIVE) | (f & n),
-        };
-    }
-    SavingAsked {
-        fits: true,
-        alive: true,
-        saving: true,
-    }
 }

@@ -1,31 +1,20 @@
 // Group identity location accept (EN 300 392-2, clause 16.10.23).
 ghost use mathlib.Core.Path.{_≡_};
-ghost use Rattle.bits.specs.Placed.{at, asMoved};
-ghost use Rattle.bits.specs.Written.{write, written, next};
-ghost use Rattle.elements.specs.Numbers.{held};
-ghost use Rattle.elements.specs.WrittenElements.{optionalBits};
-ghost use Rattle.elements.specs.Lists.{downlinks};
-ghost use Rattle.elements.specs.Locations.{nested, groupIdentityDownlink, locationAccept, noLocationAccept, locationAcceptBits};
-ghost use Rattle.elements.specs.GroupAnswers.{downlinksAnswer, locationAcceptAnswer, locationAcceptSlot, locationAcceptSlotAnswer};
-use crate::group_identity_downlink::DownlinksRead;
+ghost use Rattle.bits.specs.Placed.{at};
+ghost use Rattle.elements.specs.Locations.{locationAccept, noLocationAccept};
+ghost use Rattle.elements.specs.GroupAnswers.{locationAcceptAnswer, locationAcceptSlot, locationAcceptSlotAnswer};
 use crate::group_identity_downlink::OptionalDownlinks;
-use crate::group_identity_downlink::ask_downlinks;
 use crate::group_identity_downlink::no_downlinks;
-use crate::group_identity_downlink::put_nested;
 use crate::group_identity_downlink::read_downlinks_slot;
 use crate::type34_elem_id_dl::GROUP_IDENTITY_DOWNLINK;
-use crate::type34_elem_id_dl::GROUP_IDENTITY_LOCATION_ACCEPT;
 use crate::typed_pdu_fields::OptionalU8Read;
-use crate::typed_pdu_fields::element_header;
-use crate::typed_pdu_fields::nested_size;
 use crate::typed_pdu_fields::peek_type34_mbit_and_id;
-use crate::typed_pdu_fields::read_closing_mbit;
+use crate::typed_pdu_fields::read_empty_table;
 use bits::bitbuffer::Cursor;
 use bits::bitbuffer::Field;
 use bits::bitbuffer::Field8;
 use bits::bitbuffer::Moved;
 use bits::pdu_parse_error::INCONSISTENT_LENGTH;
-use bits::pdu_parse_error::WINDOW_TOO_SHORT;
 
 #[repr(C)]
 pub struct GroupIdentityLocationAccept {
@@ -58,44 +47,9 @@ pub fn no_location_accept() -> GroupIdentityLocationAccept
     }
 }
 
-// O-bit, and behind an O-bit of 1 the list's slot and the closing M-bit.
-fn read_list(c: Cursor, octets: &[u8]) -> DownlinksRead
-    ensures { λ r. ⌜ r ≡ downlinksAnswer (at (nested downlinks groupIdentityDownlink) (now (octets .entry)) c) ⌝ }
-{
-    let o = c.read_u8(octets, 1);
-    let Field8::Value(obit, c1) = o else {
-        return DownlinksRead {
-            verdict: Moved::Refused(o.refusal()),
-            list: no_downlinks(),
-        };
-    };
-    if obit == 1 {
-        let r = read_downlinks_slot(c1, octets, GROUP_IDENTITY_DOWNLINK);
-        let v = r.verdict;
-        let Moved::To(c2) = v else {
-            return r;
-        };
-        let m = read_closing_mbit(c2, octets);
-        let Moved::To(c3) = m else {
-            return DownlinksRead {
-                verdict: m,
-                list: no_downlinks(),
-            };
-        };
-        let list = r.list;
-        return DownlinksRead {
-            verdict: Moved::To(c3),
-            list: list,
-        };
-    }
-    DownlinksRead {
-        verdict: Moved::To(c1),
-        list: no_downlinks(),
-    }
-}
-
 impl GroupIdentityLocationAccept {
-    // The content of `len` bits: it has to end where its length said.
+    // The content of `len` bits: two bits, the O-bit, and behind an O-bit of 1 the list's slot and the closing M-bit. It has to
+    // end where its length said.
     pub fn from_bitbuf(c: Cursor, octets: &[u8], len: usize) -> LocationAcceptRead
         ensures { λ r. ⌜ r ≡ locationAcceptAnswer (at (locationAccept len) (now (octets .entry)) c) ⌝ }
     {
@@ -113,20 +67,34 @@ impl GroupIdentityLocationAccept {
                 location: no_location_accept(),
             };
         };
-        let r = read_list(c2, octets);
+        let o = c2.read_u8(octets, 1);
+        let Field8::Value(obit, c3) = o else {
+            return LocationAcceptRead {
+                verdict: Moved::Refused(o.refusal()),
+                location: no_location_accept(),
+            };
+        };
+        let r = read_downlinks_slot(c3, octets, obit == 1, GROUP_IDENTITY_DOWNLINK);
         let v = r.verdict;
-        let Moved::To(c3) = v else {
+        let Moved::To(c4) = v else {
             return LocationAcceptRead {
                 verdict: v,
                 location: no_location_accept(),
             };
         };
+        let e = read_empty_table(c4, octets, obit == 1);
+        let Moved::To(c5) = e else {
+            return LocationAcceptRead {
+                verdict: e,
+                location: no_location_accept(),
+            };
+        };
         let start = c.at;
-        let end = c3.at;
+        let end = c5.at;
         if end - start == len {
             let list = r.list;
             return LocationAcceptRead {
-                verdict: Moved::To(c3),
+                verdict: Moved::To(c5),
                 location: GroupIdentityLocationAccept {
                     group_identity_accept_reject: accept_reject,
                     group_identity_downlink: list,
@@ -194,25 +162,4 @@ pub fn read_location_accept_slot(c: Cursor, octets: &[u8], identifier: u8) -> Lo
             value: no_location_accept(),
         },
     }
-}
-
-// The element, which may be absent.
-pub fn write_location_accept(m: Moved, octets: &mut [u8], o: OptionalLocationAccept) -> Moved
-    ensures { λ r. ⌜ written (now (octets .exit)) (asMoved r) ≡ next (write (optionalBits 5 locationAcceptBits (held (o .present) (o .value)))) (written (now (octets .entry)) (asMoved m)) ⌝ }
-{
-    if o.present {
-        let d = o.value;
-        let answer = d.group_identity_accept_reject;
-        let list = d.group_identity_downlink;
-        let a = ask_downlinks(list);
-        let size = nested_size(list.present, a.size);
-        if m.has(octets.len(), 18 + size) {
-            let h = element_header(GROUP_IDENTITY_LOCATION_ACCEPT, 2 + size);
-            let b = h.then(answer as u64, 1);
-            let front = b.then(0, 1);
-            return put_nested(m, octets, front, list, a.size);
-        }
-        return m.refuse(WINDOW_TOO_SHORT);
-    }
-    m
 }

@@ -1,31 +1,25 @@
 // Numbers and elements that may be absent, and the typed elements of annex E: type 2, type 3 and type 4, a table of listed
 // identifiers, and the unlisted ones that the skipping reading passes.
 ghost use mathlib.Core.Path.{_≡_};
-ghost use mathlib.Core.Bool.{true, cond};
-ghost use Prim.Native.Nat.{_+_, _≤_, min};
+ghost use mathlib.Core.Bool.{true};
+ghost use Prim.Native.Nat.{_+_, min};
 ghost use Rattle.bits.specs.Reader.{word};
 ghost use Rattle.bits.specs.Placed.{at, asField, asMoved, refusal};
-ghost use Rattle.bits.specs.Bits.{bit, digits};
-ghost use Rattle.bits.specs.Written.{Joined, Holds, written, next};
-ghost use Rattle.elements.specs.Numbers.{u8Of, u64Of, type2As, held, optionBits, optionAll, inWidth, type2Bits};
-ghost use Rattle.elements.specs.Generics.{dataWidth, kept, type3Fits, type4Fits};
+ghost use Rattle.bits.specs.Bits.{bit};
+ghost use Rattle.elements.specs.Numbers.{u8Of, u64Of, type2As};
+ghost use Rattle.elements.specs.Generics.{dataWidth, kept};
 ghost use Rattle.elements.specs.Table.{closing, isListed};
-ghost use Rattle.elements.specs.Kinds.{identifierOf, type3Held, type4Held};
-ghost use Rattle.elements.specs.WrittenElements.{headerBits, writeType3};
+ghost use Rattle.elements.specs.Kinds.{identifierOf};
 ghost use Rattle.elements.specs.Rows.{rowsOf, slotsFrom, skipping, tableEnd, emptyTable, behindPart, part, sized, genericType3At, genericType4At, genericSlot, type3From, type4From};
 ghost use Rattle.elements.specs.Answers.{optionalU8, optionalU32, optionalU64, opening, asOptionalU8, asOptionalU32, asOptionalU64, asSkipped, genericAnswer, slotsAnswer};
+ghost use Rattle.elements.specs.Fronts.{listFront, asListFront};
 use bits::bitbuffer::Cursor;
-use bits::bitbuffer::Digits;
 use bits::bitbuffer::Field;
 use bits::bitbuffer::Field8;
 use bits::bitbuffer::Field32;
 use bits::bitbuffer::Moved;
-use bits::bitbuffer::NO_DIGITS;
-use bits::bitbuffer::within;
 use bits::pdu_parse_error::INVALID_TRAILING_MBIT_VALUE;
 use bits::pdu_parse_error::TYPE4_UNDERFLOW;
-use bits::pdu_parse_error::VALUE_TOO_LARGE;
-use bits::pdu_parse_error::WINDOW_TOO_SHORT;
 
 // What may be absent is presence and value; what is absent holds zero.
 #[repr(C)]
@@ -399,6 +393,72 @@ pub fn parse_type4_generic(c: Cursor, octets: &[u8]) -> GenericRead
     }
 }
 
+// What stands before the groups of a list: whether it is there, how many they are, and in how many bits.
+pub struct ListFront {
+    pub present: bool,
+    pub count: usize,
+    pub len: usize,
+}
+
+pub enum ListFrontRead {
+    Read(ListFront, Cursor),
+    Refused(u8),
+}
+
+impl ListFrontRead {
+    pub fn refusal(self) -> u8
+        ensures { λ n. ⌜ n ≡ refusal (asListFront self) ⌝ }
+    {
+        match self {
+            ListFrontRead::Read(_, _) => 0,
+            ListFrontRead::Refused(n) => n,
+        }
+    }
+}
+
+// The slot of a list of groups up to the first of them, where there is such a slot.
+pub fn read_list_front(c: Cursor, octets: &[u8], there: bool, identifier: u8) -> ListFrontRead
+    ensures { λ r. ⌜ asListFront r ≡ at (listFront identifier there) (now (octets .entry)) c ⌝ }
+{
+    if there {
+        let l = peek_type34_mbit_and_id(c, octets);
+        let OptionalU8Read::Read(id, c1) = l else {
+            return ListFrontRead::Refused(l.refusal());
+        };
+        if id.present {
+            if id.value == identifier {
+                let f = c1.read(octets, 11);
+                let Field::Value(size, c2) = f else {
+                    return ListFrontRead::Refused(f.refusal());
+                };
+                let k = c2.read_u8(octets, 6);
+                let Field8::Value(elems, c3) = k else {
+                    return ListFrontRead::Refused(k.refusal());
+                };
+                if size < 6 {
+                    return ListFrontRead::Refused(TYPE4_UNDERFLOW);
+                }
+                return ListFrontRead::Read(
+                    ListFront {
+                        present: true,
+                        count: elems as usize,
+                        len: size as usize - 6,
+                    },
+                    c3,
+                );
+            }
+        }
+    }
+    ListFrontRead::Read(
+        ListFront {
+            present: false,
+            count: 0,
+            len: 0,
+        },
+        c,
+    )
+}
+
 // A row of a message's table: a listed identifier, and the kind of element that it opens.
 pub struct Row {
     pub identifier: u8,
@@ -634,99 +694,4 @@ pub fn scan_part(
             generics: generics,
         },
     }
-}
-
-// An O-bit, an M-bit or a P-bit.
-pub(crate) fn bit_of(set: bool) -> u64
-    ensures { λ r. ⌜ r ≡ bit set ⌝ }
-{
-    if set { 1 } else { 0 }
-}
-
-// The width of what may be absent.
-pub(crate) fn width_if(present: bool, width: usize) -> usize
-    ensures { λ r. ⌜ (r ≡ cond present width 0) × (r ≤ width) ⌝ }
-{
-    if present { width } else { 0 }
-}
-
-// A number that may be absent, behind others.
-pub(crate) fn then_if(d: Digits, present: bool, value: u64, width: usize) -> Digits
-    ensures { λ r. ⌜ Joined d (optionBits (digits width) (held present value)) r ⌝ }
-{
-    d.then(value, width_if(present, width))
-}
-
-// A type 2 element: the P-bit, and the value if it is present.
-pub fn type2(present: bool, value: u64, width: usize) -> Digits
-    ensures { λ r. ⌜ Holds r (type2Bits (digits width) (held present value)) ⌝ }
-{
-    let p = NO_DIGITS.then(bit_of(present), 1);
-    then_if(p, present, value, width)
-}
-
-// Question 8 of a type 2 element: the value, if it is present, is in its width.
-pub fn ask_type2(present: bool, value: u64, width: usize) -> bool
-    ensures { λ r. ⌜ r ≡ optionAll (inWidth width) (held present value) ⌝ }
-{
-    if present {
-        return within(value, width);
-    }
-    true
-}
-
-// What stands before the content of a type 3 or type 4 element: M-bit 1, identifier, length.
-pub(crate) fn element_header(identifier: u8, size: usize) -> Digits
-    ensures { λ r. ⌜ Holds r (headerBits identifier size) ⌝ }
-{
-    let m = NO_DIGITS.then(1, 1);
-    let i = m.then(identifier as u64, 4);
-    i.then(size as u64, 11)
-}
-
-// Question 8 of a generic element that may be absent: at most 64 bits, data within them, at most 63 entries.
-pub fn type3_fits(o: OptionalType3) -> bool
-    ensures { λ r. ⌜ r ≡ optionAll type3Fits (type3Held o) ⌝ }
-{
-    let g = o.value;
-    if o.present {
-        return (g.len <= 64) & within(g.data, g.len);
-    }
-    true
-}
-
-pub fn type4_fits(o: OptionalType4) -> bool
-    ensures { λ r. ⌜ r ≡ optionAll type4Fits (type4Held o) ⌝ }
-{
-    let g = o.value;
-    if o.present {
-        return (g.len <= 64) & (within(g.data, g.len) & within(g.elems as u64, 6));
-    }
-    true
-}
-
-// A type 3 element that may be absent; 8 if its data does not fit.
-pub fn write_type3_generic(m: Moved, octets: &mut [u8], identifier: u8, o: OptionalType3) -> Moved
-    ensures { λ r. ⌜ written (now (octets .exit)) (asMoved r) ≡ next (writeType3 identifier o) (written (now (octets .entry)) (asMoved m)) ⌝ }
-{
-    if o.present {
-        if type3_fits(o) {
-            let g = o.value;
-            if m.has(octets.len(), 16 + g.len) {
-                let m1 = m.put(octets, element_header(identifier, g.len));
-                return m1.put(octets, NO_DIGITS.then(g.data, g.len));
-            }
-            return m.refuse(WINDOW_TOO_SHORT);
-        }
-        return m.refuse(VALUE_TOO_LARGE);
-    }
-    m
-}
-
-// The bits from the O-bit of a structure on, `size` being the length of its list's content.
-pub(crate) fn nested_size(listed: bool, size: usize) -> usize
-    requires { ⌜ size ≤ 5172 ⌝ }
-    ensures { λ r. ⌜ (r ≡ cond listed (18 + size) 1) × (r ≤ 5190) ⌝ }
-{
-    if listed { 18 + size } else { 1 }
 }

@@ -7,6 +7,7 @@ use lib.Dec.{leb}
 use lib.Seq.{sets}
 use Rattle.bits.specs.PduParseError.{windowTooShort}
 use Rattle.bits.specs.Bits.{bit}
+use Rattle.elements.specs.Lists.{each}
 use Rattle.elements.specs.ClassOfMs.{classFields}
 use Rattle.elements.specs.declared.typed_pdu_fields.OptionalU8.{OptionalU8}
 use Rattle.elements.specs.declared.typed_pdu_fields.OptionalU64.{OptionalU64}
@@ -21,7 +22,7 @@ use Rattle.elements.specs.declared.group_identity_downlink.GroupIdentityDownlin
 use Rattle.elements.specs.declared.group_identity_downlink.OptionalDownlinks.{OptionalDownlinks}
 use Rattle.elements.specs.declared.group_identity_location_demand.OptionalLocationDemand.{OptionalLocationDemand}
 use Rattle.elements.specs.declared.group_identity_location_accept.OptionalLocationAccept.{OptionalLocationAccept}
-use Rattle.messages.specs.Calls.{Message, demand, accept, attachDetach, messageOf}
+use Rattle.messages.specs.Calls.{Message, demand, accept, attachDetach}
 use Rattle.messages.specs.declared.Record.{Record}
 use Rattle.messages.specs.declared.Reading.{Reading}
 use Rattle.messages.specs.declared.Verdict.{Verdict}
@@ -39,14 +40,9 @@ highFirst (suc n) v = v / 2 ^ (8 * n) % 256 ∷ highFirst n v
 abbrev pub flatField : Bool → ℕ → List ℕ
 flatField p v = bit p ∷ highFirst 8 (cond p v 0)
 
--- things one after the other
-abbrev pub flatEach : {G : Type 0} → (G → List ℕ) → List G → List ℕ
-flatEach flat [] = []
-flatEach flat (g ∷ gs) = flat g ++ flatEach flat gs
-
 -- fields of one presence
 abbrev pub flatFields : Bool → List ℕ → List ℕ
-flatFields p = flatEach (flatField p)
+flatFields p = each (flatField p)
 
 -- ## elements
 
@@ -57,10 +53,10 @@ abbrev pub flatU64 : OptionalU64 → List ℕ
 flatU64 o = flatField (o .present) (o .value)
 
 abbrev pub flatType3 : OptionalType3 → List ℕ
-flatType3 o = flatFields (o .present) (o .value .len ∷ o .value .«data» ∷ [])
+flatType3 o = flatField (o .present) (o .value .len) ++ flatField (o .present) (o .value .«data»)
 
 abbrev pub flatType4 : OptionalType4 → List ℕ
-flatType4 o = flatFields (o .present) (o .value .len ∷ o .value .elems ∷ o .value .«data» ∷ [])
+flatType4 o = flatField (o .present) (o .value .len) ++ (flatField (o .present) (o .value .elems) ++ flatField (o .present) (o .value .«data»))
 
 -- a structure: a presence octet and its fields
 abbrev pub flatClass : OptionalClassOfMs → List ℕ
@@ -78,7 +74,7 @@ abbrev pub flatAddress : Bool → ℕ → Bool → ℕ → Bool → ℕ → List
 flatAddress p gssi q extension r vgssi = flatField p gssi ++ (flatField q extension ++ flatField r vgssi)
 
 abbrev pub flatAttachment : Bool → GroupIdentityAttachment → List ℕ
-flatAttachment p t = bit p ∷ flatFields p (t .«group_identity_attachment_lifetime» ∷ t .«class_of_usage» ∷ [])
+flatAttachment p t = bit p ∷ flatField p (t .«group_identity_attachment_lifetime») ++ flatField p (t .«class_of_usage»)
 
 abbrev pub flatUplink : GroupIdentityUplink → List ℕ
 flatUplink g =
@@ -94,7 +90,7 @@ flatDownlink g =
 
 -- a list: its count, and as many groups
 abbrev pub flatList : {G : Type 0} → (G → List ℕ) → Bool → ℕ → List G → List ℕ
-flatList flat p n gs = flatField p n ++ cond p (flatEach flat (take n gs)) []
+flatList flat p n gs = flatField p n ++ cond p (each flat (take n gs)) []
 
 abbrev pub flatUplinks : Bool → OptionalUplinks → List ℕ
 flatUplinks p l = flatList flatUplink p (l .count) (l .groups)

@@ -6,6 +6,7 @@ use lib.ListN.{length, replicate}
 use Rattle.bits.specs.Bits.{number, digits, bitsOf}
 use Rattle.bits.specs.Reader.{field}
 use Rattle.bits.specs.Placed.{window}
+use Rattle.elements.specs.Lists.{each}
 use Rattle.messages.specs.Head.{pduType}
 use Rattle.messages.specs.Format.{message}
 use Rattle.messages.specs.Demand.{demandHead, demandOptions}
@@ -36,5 +37,5 @@ Fills flat r flat′ = (readResult demand answer flat ≡ r) × (readBuffer dema
 
 -- 640 is 64 × 10 bits, and two octets past the form are kept; a buffer one octet too short is kept
 pub flat-example : (length octets ≡ 371) × Fills (replicate 373 255) 640 (octets ++ 255 ∷ 255 ∷ []) × Fills (replicate 370 255) 16 (replicate 370 255)
-unfolding number digits bitsOf field window pduType message demandHead demandOptions known goodWindow goodCall reading flatDemand readResult readBuffer
+unfolding number digits bitsOf field each window pduType message demandHead demandOptions known goodWindow goodCall reading flatDemand readResult readBuffer
 flat-example = (refl, (refl, refl), (refl, refl))

@@ -4,12 +4,12 @@ use native.Mathlib.Nat.{mul-zero, mul-suc, add-comm}
 use native.Mathlib.Omega.{arith}
 use mathlib.Core.Path.{_≡_, refl, sym, ap, _∙_}
 use mathlib.Core.Bool.{Bool, true, false, cond}
-use mathlib.Core.List.{List, [], _∷_, _++_, append-nil, append-assoc}
+use mathlib.Core.List.{List, [], _∷_, _++_, append-nil}
 use lib.ListN.{length, length-append, length-take, set, take, getD}
 use lib.Seq.{sets, length-sets}
 use Rattle.elements.specs.Lists.{each}
 use Rattle.elements.specs.EachLaws.{each-more, take-most}
-use Rattle.exports.specs.Flat.{highFirst, flatEach, shown}
+use Rattle.exports.specs.Flat.{highFirst, shown}
 
 -- the octets xs are put into f from `at` on, which makes g; `to` is the place behind them
 pub record Put (f : List ℕ) (at : ℕ) (xs : List ℕ) (g : List ℕ) (to : ℕ) : Type 0 where
@@ -42,27 +42,34 @@ number-turn f at v (suc k) p q =
 
 -- ## things one after the other
 
-module _ {G : Type 0} (flat : G → List ℕ) where
-  pub none-put : (f : List ℕ) (at : ℕ) (gs : List G) → Put f at (flatEach flat (take 0 gs)) f at
-  none-put f at gs = put refl (omega arith)
+-- A LOOP THAT PUTS THINGS of w octets each, from `at` on: i of n are put
+pub record Shown {G : Type 0} (flat : G → List ℕ) (w : ℕ) (gs : List G) (n : ℕ) (f : List ℕ) (at : ℕ) (g : List ℕ) (to i : ℕ) : Type 0 where
+  pub few : i ≤ n
+  pub place : to ≡ at + w * i
+  pub things : Put f at (each flat (take i gs)) g to
 
-  as-each : (gs : List G) → flatEach flat gs ≡ each flat gs
+module _ {G : Type 0} (flat : G → List ℕ) (w : ℕ) where
+  pub shown-none : (gs : List G) (n : ℕ) (f : List ℕ) (at : ℕ) → Shown flat w gs n f at f at 0
   unfolding each
-  as-each [] = refl
-  as-each (g ∷ gs) = ap (λ (xs : List ℕ). flat g ++ xs) (as-each gs)
+  shown-none gs n f at = let z : w * 0 ≡ 0 = mul-zero w in record { few = omega arith; place = omega arith; things = put refl (omega arith) }
 
   -- one more
-  pub one-put : {f g h : List ℕ} {at to end : ℕ} (gs : List G) (i : ℕ) (d : G) → i < length gs
-      → Put f at (flatEach flat (take i gs)) g to → Put g to (flat (getD gs i d)) h end → Put f at (flatEach flat (take (i + 1) gs)) h end
-  one-put gs i d h p q = rw (as-each (take (i + 1) gs), each-more flat gs i d h, ← as-each (take i gs)) (p ⨟ q)
-
-  -- all of them
-  pub all-put : {f g : List ℕ} {at to : ℕ} (gs hs : List G) (i : ℕ) → take i gs ≡ hs → Put f at (flatEach flat (take i gs)) g to → Put f at (flatEach flat hs) g to
-  all-put gs hs i e p = rw (← e) p
+  module _ (long : (g : G) → length (flat g) ≡ w) {gs : List G} {n : ℕ} {f g h : List ℕ} {at to end i : ℕ} (s : Shown flat w gs n f at g to i) (l : i < n) (m : n ≤ length gs)
+      (d : G) (q : Put g to (flat (getD gs i d)) h end) where
+    pub shown-more : Shown flat w gs n f at h end (i + 1)
+    shown-more =
+        let z : w * suc i ≡ w * i + w = mul-suc w i in
+        let e : i + 1 ≡ suc i = omega arith in
+        record {
+          few = omega arith;
+          place = rw e (omega (arith, s .place, q .next, long (getD gs i d)));
+          things = rw (each-more flat gs i d (omega arith)) (s .things ⨟ q);
+        }
 
 -- a list: what stands before its groups, and the groups that are shown
 pub shown-put : {G : Type 0} (flat : G → List ℕ) (b : Bool) (n : ℕ) (gs : List G) (i : ℕ) {f g h : List ℕ} {at to end : ℕ} {xs : List ℕ} → length gs ≡ 63 → i ≡ shown b n
-    → Put f at xs g to → Put g to (flatEach flat (take i gs)) h end → Put f at (xs ++ cond b (flatEach flat (take n gs)) []) h end
+    → Put f at xs g to → Put g to (each flat (take i gs)) h end → Put f at (xs ++ cond b (each flat (take n gs)) []) h end
+unfolding each
 shown-put flat true n gs i l e p q = p ⨟ (rw (e, take-most n 63 gs l) at q)
 shown-put flat false n gs i l e p q = p ⨟ (rw e at q)
 
@@ -77,15 +84,16 @@ module _ {f g : List ℕ} {at to : ℕ} {ys : List ℕ} (p : Put f at ys g to) (
 -- ## how long a list is
 
 module _ {G : Type 0} (flat : G → List ℕ) (w : ℕ) (long : (g : G) → length (flat g) ≡ w) where
-  length-each : (gs : List G) → length (flatEach flat gs) ≡ w * length gs
+  length-each : (gs : List G) → length (each flat gs) ≡ w * length gs
+  unfolding each
   length-each [] = sym (mul-zero w)
-  length-each (g ∷ gs) = length-append (flat g) (flatEach flat gs) ∙ rw (long g, length-each gs, mul-suc w (length gs)) (add-comm w (w * length gs))
+  length-each (g ∷ gs) = length-append (flat g) (each flat gs) ∙ rw (long g, length-each gs, mul-suc w (length gs)) (add-comm w (w * length gs))
 
-  pub length-shown : (p : Bool) (n : ℕ) (gs : List G) → length gs ≡ 63 → length (cond p (flatEach flat (take n gs)) []) ≡ w * shown p n
+  pub length-shown : (p : Bool) (n : ℕ) (gs : List G) → length gs ≡ 63 → length (cond p (each flat (take n gs)) []) ≡ w * shown p n
   length-shown true n gs e = length-each (take n gs) ∙ ap (λ (k : ℕ). w * k) (length-take n gs ∙ ap (λ (k : ℕ). min n k) e)
   length-shown false n gs e = sym (mul-zero w)
 
   -- and what stands behind it
   pub length-list : (p : Bool) (n : ℕ) (gs : List G) (ys : List ℕ) → length gs ≡ 63
-      → length (cond p (flatEach flat (take n gs)) [] ++ ys) ≡ w * shown p n + length ys
-  length-list p n gs ys e = length-append (cond p (flatEach flat (take n gs)) []) ys ∙ ap (λ (k : ℕ). k + length ys) (length-shown p n gs e)
+      → length (cond p (each flat (take n gs)) [] ++ ys) ≡ w * shown p n + length ys
+  length-list p n gs ys e = length-append (cond p (each flat (take n gs)) []) ys ∙ ap (λ (k : ℕ). k + length ys) (length-shown p n gs e)

@@ -13,6 +13,7 @@ use Rattle.bits.specs.Reader.{Answer, got, refused}
 use Rattle.bits.specs.Placed.{Placed, at, refusal}
 use Rattle.bits.specs.PlacedLaws.{length-window}
 use Rattle.bits.specs.declared.bitbuffer.Cursor.{Cursor}
+use Rattle.elements.specs.Lists.{each}
 use Rattle.elements.specs.Answers.{asSkipped}
 use Rattle.elements.specs.Table.{Counted}
 use Rattle.elements.specs.declared.typed_pdu_fields.Skipped.{Skipped}
@@ -56,7 +57,7 @@ behindGroups accept r =
 behindGroups attachDetach r = flatType4 (r .«attach_detach» .«group_identity_security_related_information»)
 
 length-form : (m : Message) (n : ℕ) (r : Record) {g : ℕ} → Shows m r g → length (flatForm m n r) ≡ formLength m g
-unfolding flatDemand flatAccept flatAttachDetach
+unfolding each flatDemand flatAccept flatAttachDetach
 length-form demand n r s =
     let o = r .demand .«group_identity_location_demand» in
     let l = o .value .«group_identity_uplink» in

@@ -7,7 +7,8 @@ ghost use mathlib.Core.List.{[], _∷_};
 ghost use lib.ListN.{length, take};
 ghost use Rattle.bits.specs.Bits.{bit};
 ghost use lib.Seq.{sets};
-ghost use Rattle.exports.specs.Flat.{highFirst, flatField, flatEach, flatFields, flatType3, flatType4, flatClass, flatSaving, flatAddress, flatAttachment, flatUplink, flatDownlink, flatUplinks, flatDownlinks, flatLocationDemand, flatLocationAccept, flatDemandHead, flatDemandOptions, flatDemandGenerics, flatDemand, flatAcceptHead, flatAcceptFront, flatAcceptGenerics, flatAccept, flatAttachDetachHead, flatAttachDetach, shown, shownUplinks, shownDownlinks};
+ghost use Rattle.elements.specs.Lists.{each};
+ghost use Rattle.exports.specs.Flat.{highFirst, flatField, flatFields, flatType3, flatType4, flatClass, flatSaving, flatAddress, flatAttachment, flatUplink, flatDownlink, flatUplinks, flatDownlinks, flatLocationDemand, flatLocationAccept, flatDemandHead, flatDemandOptions, flatDemandGenerics, flatDemand, flatAcceptHead, flatAcceptFront, flatAcceptGenerics, flatAccept, flatAttachDetachHead, flatAttachDetach, shown, shownUplinks, shownDownlinks};
 ghost use Rattle.exports.specs.FlatLaws.{Put};
 use elements::class_of_ms::OptionalClassOfMs;
 use elements::energy_saving_information::OptionalEnergySavingInformation;
@@ -240,7 +241,7 @@ fn put_uplink_groups(
     groups: [GroupIdentityUplink; 63],
 ) -> usize
     requires { ⌜ at + 46 * min count 63 ≤ length (now flat) ⌝ }
-    ensures { λ r. ⌜ Put (now (flat .entry)) at (flatEach flatUplink (take count groups)) (now (flat .exit)) r ⌝ }
+    ensures { λ r. ⌜ Put (now (flat .entry)) at (each flatUplink (take count groups)) (now (flat .exit)) r ⌝ }
 {
     let n = at_most_63(count);
     let mut place = at;
@@ -266,7 +267,8 @@ fn put_uplinks(flat: &mut [u8], at: usize, present: bool, list: OptionalUplinks)
     a
 }
 
-// A list's count, and its groups; two messages have one, so that the list is copied for this call.
+// A list's count, and its groups. The location accept puts its own list: a function with one caller is compiled into it, and
+// the list isn't copied for the call.
 fn put_downlinks(flat: &mut [u8], at: usize, present: bool, list: OptionalDownlinks) -> usize
     requires { ⌜ at + 9 + 56 * shown present (list .count) ≤ length (now flat) ⌝ }
     ensures { λ r. ⌜ Put (now (flat .entry)) at (flatDownlinks present list) (now (flat .exit)) r ⌝ }
@@ -306,7 +308,16 @@ fn put_location_accept(flat: &mut [u8], at: usize, o: OptionalLocationAccept) ->
     let list = v.group_identity_downlink;
     let a = put_flag(flat, at, o.present);
     let b = put_field(flat, a, o.present, v.group_identity_accept_reject as u64);
-    put_downlinks(flat, b, o.present & list.present, list)
+    let present = o.present & list.present;
+    let mut place = put_field(flat, b, present, list.count as u64);
+    let n = shown_downlinks(present, list);
+    let mut i: usize = 0;
+    while i < n {
+        let g = list.groups[i];
+        place = put_downlink(flat, place, g);
+        i += 1;
+    }
+    place
 }
 
 fn put_demand_head(

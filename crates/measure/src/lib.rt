@@ -1,15 +1,18 @@
-// For benchmarks: one field read, one field written, and each of the messages read.
+// For benchmarks: one field read, one field written, and each of the messages read and written.
 ghost use mathlib.Core.Path.{_≡_};
 ghost use Rattle.bits.specs.Reader.{word};
 ghost use Rattle.bits.specs.Placed.{at as atCursor, refusal};
 ghost use Rattle.bits.specs.Written.{writeField};
 ghost use Rattle.messages.specs.Head.{uLocationUpdateDemand, dLocationUpdateAccept, dAttachDetachGroupIdentity};
-ghost use Rattle.messages.specs.Calls.{reading};
+ghost use Rattle.messages.specs.Calls.{ofDemand, ofAccept, ofAttachDetach, reading, writing, octetsWritten};
 ghost use Rattle.measure.specs.Measured.{valueOrRefusal, measuredDemand, measuredAccept, measuredAttachDetach};
 use bits::bitbuffer::Cursor;
 use bits::bitbuffer::Field;
 use bits::pdu_parse_error::BAD_CALL;
 use elements::typed_pdu_fields::Skipped;
+use message_writers::write_accept;
+use message_writers::write_attach_detach;
+use message_writers::write_demand;
 use messages::ACCEPT;
 use messages::ATTACH_DETACH;
 use messages::DEMAND;
@@ -171,4 +174,47 @@ pub extern "C" fn measure_attach_detach(
         answer: BAD_CALL as u64,
         record: no_attach_detach(),
     }
+}
+
+// A message written: the number of bits, 0 with a refusal.
+#[no_mangle]
+pub extern "C" fn measure_write_demand(
+    d: ULocationUpdateDemand,
+    octets: &mut [u8],
+    first: usize,
+    end: usize,
+) -> u64
+    ensures bits { λ r. ⌜ r ≡ writing uLocationUpdateDemand (now (octets .entry)) first end (ofDemand d) .written ⌝ }
+    ensures octets { λ r. ⌜ now (octets .exit) ≡ octetsWritten uLocationUpdateDemand (now (octets .entry)) first end (ofDemand d) ⌝ }
+{
+    let w = write_demand(octets, first, end, d);
+    w.written as u64
+}
+
+#[no_mangle]
+pub extern "C" fn measure_write_accept(
+    d: DLocationUpdateAccept,
+    octets: &mut [u8],
+    first: usize,
+    end: usize,
+) -> u64
+    ensures bits { λ r. ⌜ r ≡ writing dLocationUpdateAccept (now (octets .entry)) first end (ofAccept d) .written ⌝ }
+    ensures octets { λ r. ⌜ now (octets .exit) ≡ octetsWritten dLocationUpdateAccept (now (octets .entry)) first end (ofAccept d) ⌝ }
+{
+    let w = write_accept(octets, first, end, d);
+    w.written as u64
+}
+
+#[no_mangle]
+pub extern "C" fn measure_write_attach_detach(
+    d: DAttachDetachGroupIdentity,
+    octets: &mut [u8],
+    first: usize,
+    end: usize,
+) -> u64
+    ensures bits { λ r. ⌜ r ≡ writing dAttachDetachGroupIdentity (now (octets .entry)) first end (ofAttachDetach d) .written ⌝ }
+    ensures octets { λ r. ⌜ now (octets .exit) ≡ octetsWritten dAttachDetachGroupIdentity (now (octets .entry)) first end (ofAttachDetach d) ⌝ }
+{
+    let w = write_attach_detach(octets, first, end, d);
+    w.written as u64
 }

@@ -10,6 +10,7 @@ use lib.ListN.{length, length-append}
 use Rattle.bits.specs.Bits.{Bits}
 use Rattle.bits.specs.Reader.{Answer, got, refused, Reader, then, Local, Tail}
 use Rattle.bits.specs.ReaderLaws.{refused-got, split-then, local-tail, got-local, bind-local, bind-tail, Agree, both, neither, agree, Follows, Passes}
+use Rattle.elements.specs.NumbersLaws.{never}
 use Rattle.elements.specs.Table.{Counted, counted, Piece, walk, cut, unlisted, total, usedOf, isListed, scanTable}
 use Rattle.elements.specs.TableLaws.{used-of, scan-strict, scan-tail, scan-local}
 use Rattle.elements.specs.Cut.{Alike, give, refuse, cut-length, cut-none, Walks, scan-cut, scan-walks}
@@ -96,16 +97,14 @@ module _ {S A R : Type 0} (identifier : S → ℕ) (content : S → ℕ → Read
     -- the walk stays inside
     walks-at : (b : Bool) (bs : Bits) {mid : Bits} {x : Counted R} {r : Bits} → f .layout bs ≡ got true mid → message identifier content f b bs ≡ got x r
         → Walks listed mid (x .skipped)
-    unfolding message
-    walks-at b bs {mid} {x} e p = split-then (f .head bs) _ p (λ h m q k.
-        let (o, same) = head-at bs e q in
-        split-then (scanTable identifier content b (f .table) mid) _ (rw (o, same) at k) (λ y r′ q′ k′.
-        let g : counted (y .skipped) (f .finish h (y .value)) ≡ x = cc in
-        rw (← g) (scan-walks identifier content (ok .contents-local) (ok .contents-pass) listed b (f .table) (λ i t. t) mid q′)))
+    walks-at b bs {mid} e p =
+        message-made identifier content f (λ x. Walks listed mid (x .skipped)) b bs
+        (λ h m q o y r k. scan-walks identifier content (ok .contents-local) (ok .contents-pass) listed b (f .table) (λ i t. t) mid (rw (head-at bs e q .1) at k))
+        (λ h m q o. never (sym o ∙ head-at bs e q .0)) p
 
     strict-counts : (bs : Bits) {x : Counted R} {r : Bits} → strict bs ≡ got x r → x .skipped ≡ 0
     strict-counts bs e =
-        message-made identifier content f (λ x. x .skipped ≡ 0) false bs (λ h m p y r q. scan-strict identifier content listed (f .table) m q) (λ h m p. refl) e
+        message-made identifier content f (λ x. x .skipped ≡ 0) false bs (λ h m p o y r q. scan-strict identifier content listed (f .table) m q) (λ h m p o. refl) e
 
     -- ## the proof
 

@@ -47,7 +47,7 @@ module _ (m : Message) where
   made-by : (P : Record → Type 0) → ((h : formatOf m .Head) (vs : List (Option Element)) → P (formatOf m .finish h vs))
       → (b : Bool) (bs : Bits) {x : Counted Record} {rest : Bits} → readMessage m b bs ≡ got x rest → P (x .value)
   made-by P made b bs e =
-      message-made identifierOf content (formatOf m) (λ x. P (x .value)) b bs (λ h mid p y r q. made h (y .value)) (λ h mid p. made h _) e
+      message-made identifierOf content (formatOf m) (λ x. P (x .value)) b bs (λ h mid p o y r q. made h (y .value)) (λ h mid p o. made h _) e
 
   module _ {X R : Type 0} where
     -- an answer that holds a verdict and beside it the message's own record, which `of` puts into the call's

@@ -198,7 +198,7 @@ fn read_elements(
     let Moved::To(c1) = v else {
         return refused(v.refusal());
     };
-    let d = read_downlinks_slot(c1, octets, GROUP_IDENTITY_DOWNLINK);
+    let d = read_downlinks_slot(c1, octets, true, GROUP_IDENTITY_DOWNLINK);
     let w = d.verdict;
     let Moved::To(c2) = w else {
         return refused(w.refusal());

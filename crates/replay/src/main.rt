@@ -1,13 +1,18 @@
-// Recorded windows from standard input, each read by the library as it is linked: a line with the answer for each. The
-// answers that it is held to are the original's (`host/run record`).
+// Recorded calls from standard input, each made of the library as it is linked, a reading or a rewriting: a line with the answer
+// for each. The answers that it is held to are the original's (`host/run record`).
 ghost use Prim.Native.Nat.{_≤_};
 ghost use lib.ListN.{length};
 use exports::tetra_mm_read;
+use exports::tetra_mm_rewrite;
 use libc::STDIN_FILENO;
 use libc::STDOUT_FILENO;
 use std::num::wrapping_add_u64;
 
-// A window: message, reading, first bit, end bit, count of octets (1, 1, 2, 2 and 2 octets, high first), and the octets.
+// A reading: message, reading, first bit, end bit, count of octets (1, 1, 2, 2 and 2 octets, high first), and the octets. A
+// rewriting has 255 for the reading, and before the octets the output's first bit, end bit, count of octets and what each of them
+// holds before (2, 2, 2 and 1 octets).
+const REWRITING: u8 = 255;
+
 fn wide(octet: u8) -> u64 {
     octet as u64
 }
@@ -33,10 +38,12 @@ fn mixed(hash: u64, octet: u8) -> u64 {
     wrapping_add_u64(e, h << 40)
 }
 
-fn digest(flat: &[u8; 3773]) -> u64 {
+fn digest(octets: &[u8]) -> u64 {
     let mut hash: u64 = 0xcbf29ce484222325;
-    for i in 0..3773 {
-        hash = mixed(hash, flat[i]);
+    let mut i = 0;
+    while i < octets.len() {
+        hash = mixed(hash, octets[i]);
+        i += 1;
     }
     hash
 }
@@ -44,6 +51,11 @@ fn digest(flat: &[u8; 3773]) -> u64 {
 fn print_number(n: u64) {
     io::print_decimal(STDOUT_FILENO, n);
     io::write_all(STDOUT_FILENO, b" ");
+}
+
+fn print_digest(octets: &[u8]) {
+    io::print_hex(STDOUT_FILENO, digest(octets), 16);
+    io::write_all(STDOUT_FILENO, b"\n");
 }
 
 // Refusal, bits consumed, count skipped, and a digest of the whole buffer.
@@ -55,8 +67,7 @@ fn print_answer(result: u64, flat: &[u8; 3773]) {
     } else {
         print_number(0);
     }
-    io::print_hex(STDOUT_FILENO, digest(flat), 16);
-    io::write_all(STDOUT_FILENO, b"\n");
+    print_digest(flat);
 }
 
 // Takes the octets of a window and prints its answer.
@@ -75,11 +86,59 @@ fn replay_front(head: &[u8; 8], octets: &mut [u8], count: usize)
     replay_octets(head, &mut octets[..count]);
 }
 
-// One window; whether there was one.
+// Takes the octets of a rewriting and prints its answer: refusal, bits written, and a digest of the whole output.
+fn rewrite_octets(head: &[u8; 8], more: &[u8; 7], octets: &mut [u8], out: &mut [u8]) {
+    io::read_full(STDIN_FILENO, octets);
+    let result = tetra_mm_rewrite(
+        wide(head[0]),
+        octets,
+        pair(head[2], head[3]),
+        pair(head[4], head[5]),
+        out,
+        pair(more[0], more[1]),
+        pair(more[2], more[3]),
+    );
+    print_number(result % 64);
+    print_number(result / 64);
+    print_digest(out);
+}
+
+fn rewrite_front(
+    head: &[u8; 8],
+    more: &[u8; 7],
+    octets: &mut [u8],
+    count: usize,
+    out: &mut [u8],
+    out_count: usize,
+)
+    requires { ⌜ (count ≤ length (now octets)) × («out_count» ≤ length (now out)) ⌝ }
+{
+    rewrite_octets(head, more, &mut octets[..count], &mut out[..out_count]);
+}
+
+// The rest of a rewriting; whether it was there.
+fn rewrite(head: &[u8; 8]) -> bool {
+    let mut more = [0u8; 7];
+    if io::read_full(STDIN_FILENO, &mut more) < 7 {
+        return false;
+    }
+    let before = more[6];
+    let mut octets = [0u8; 4200];
+    let mut out = [before; 4200];
+    let count = least(pair(head[6], head[7]) as usize, 4200);
+    let out_count = least(pair(more[4], more[5]) as usize, 4200);
+    rewrite_front(head, &more, &mut octets, count, &mut out, out_count);
+    true
+}
+
+// One call; whether there was one.
 fn replay() -> bool {
     let mut head = [0u8; 8];
     if io::read_full(STDIN_FILENO, &mut head) < 8 {
         return false;
+    }
+    if head[1] == REWRITING {
+        return rewrite(&head);
     }
     let mut octets = [0u8; 4200];
     let count = least(pair(head[6], head[7]) as usize, 4200);

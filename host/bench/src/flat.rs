@@ -18,20 +18,6 @@ use tetra_pdus::mm::pdus::u_location_update_demand::ULocationUpdateDemand;
 
 use crate::messages::{Message, Table, fastest};
 
-unsafe extern "C" {
-    /// 64 times the bits consumed, plus a refusal's number.
-    fn tetra_mm_read(
-        message: u64,
-        reading: u64,
-        octets: *const u8,
-        octets_len: usize,
-        first: u64,
-        end: u64,
-        flat: *mut u8,
-        flat_len: usize,
-    ) -> u64;
-}
-
 const STRICT: u64 = 0;
 /// Room for the longest form, an accept with 63 groups, and some octets that must stay.
 const ROOM: usize = 245 + 63 * 56 + 5;
@@ -68,19 +54,7 @@ fn original_read<M: Message>(buffer: &mut BitBuffer, flat: &mut [u8]) -> u64 {
 }
 
 fn our_read<M: Message>(octets: &[u8], end: usize, flat: &mut [u8]) -> u64 {
-    // SAFETY: each pointer and its length are one slice's, and the two slices don't overlap.
-    unsafe {
-        tetra_mm_read(
-            M::NUMBER,
-            STRICT,
-            octets.as_ptr(),
-            octets.len(),
-            0,
-            end as u64,
-            flat.as_mut_ptr(),
-            flat.len(),
-        )
-    }
+    tetra_mm::read_into(M::NUMBER, STRICT, octets, 0, end as u64, flat)
 }
 
 /// A flat form that is being filled.

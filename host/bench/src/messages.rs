@@ -8,11 +8,11 @@ use std::hint::black_box;
 use std::mem::MaybeUninit;
 use std::time::Instant;
 
+use oracle::records::{self, demand};
 use tetra_core::BitBuffer;
 use tetra_core::pdu_parse_error::PduParseErr;
 use tetra_core::typed_pdu_fields::Type3FieldGeneric;
 use tetra_pdus::mm::enums::energy_saving_mode::EnergySavingMode;
-use tetra_pdus::mm::enums::location_update_type::LocationUpdateType;
 use tetra_pdus::mm::enums::type34_elem_id_ul::MmType34ElemIdUl;
 use tetra_pdus::mm::fields::class_of_ms::ClassOfMs;
 use tetra_pdus::mm::fields::group_identity_attachment::GroupIdentityAttachment;
@@ -25,14 +25,23 @@ use tetra_pdus::mm::pdus::d_location_update_accept::DLocationUpdateAccept;
 use tetra_pdus::mm::pdus::u_location_update_demand::ULocationUpdateDemand;
 
 use crate::flat::Flat;
+use crate::writing::Writing;
 
 /// Our answer, with room for the record of any message.
 #[repr(C)]
 pub struct Answer {
     /// 64 times the bits consumed, plus a refusal's number.
     number: u64,
-    record: MaybeUninit<[u64; 500]>,
+    record: OurRecord,
 }
+
+/// Room for a record of any message, as our readings hand it back.
+type OurRecord = MaybeUninit<[u64; 500]>;
+
+/// A record of one message, in so many words, as our writings take it.
+#[repr(C)]
+#[derive(Clone, Copy)]
+pub struct Own<const WORDS: usize>(MaybeUninit<[u64; WORDS]>);
 
 /// Our reading call of one message.
 pub type Reading = unsafe extern "C" fn(
@@ -61,6 +70,24 @@ reading!(measure_demand);
 reading!(measure_accept);
 reading!(measure_attach_detach);
 
+macro_rules! writing {
+    ($name:ident, $words:expr) => {
+        unsafe extern "C" {
+            fn $name(
+                record: Own<$words>,
+                octets: *mut u8,
+                octets_len: usize,
+                first: usize,
+                end: usize,
+            ) -> u64;
+        }
+    };
+}
+
+writing!(measure_write_demand, 187);
+writing!(measure_write_accept, 195);
+writing!(measure_write_attach_detach, 171);
+
 const STRICT: u64 = 0;
 const ROUNDS: usize = 400;
 /// The messages of a round.
@@ -70,6 +97,9 @@ pub trait Message: Flat + Sized {
     /// The message's type number.
     const NUMBER: u64;
     const OURS: Reading;
+    /// The message's own record in our layout.
+    type Own: Copy;
+    const OUR_WRITING: Writing<Self::Own>;
 
     fn read(buffer: &mut BitBuffer) -> Result<Self, PduParseErr>;
 
@@ -77,10 +107,12 @@ pub trait Message: Flat + Sized {
 }
 
 macro_rules! message {
-    ($record:ty, $number:expr, $ours:expr) => {
+    ($record:ty, $number:expr, $ours:expr, $our_writing:expr, $words:expr) => {
         impl Message for $record {
             const NUMBER: u64 = $number;
             const OURS: Reading = $ours;
+            type Own = Own<$words>;
+            const OUR_WRITING: Writing<Self::Own> = $our_writing;
 
             fn read(buffer: &mut BitBuffer) -> Result<Self, PduParseErr> {
                 Self::from_bitbuf(buffer)
@@ -93,9 +125,9 @@ macro_rules! message {
     };
 }
 
-message!(ULocationUpdateDemand, 2, measure_demand);
-message!(DLocationUpdateAccept, 5, measure_accept);
-message!(DAttachDetachGroupIdentity, 10, measure_attach_detach);
+message!(ULocationUpdateDemand, 2, measure_demand, measure_write_demand, 187);
+message!(DLocationUpdateAccept, 5, measure_accept, measure_write_accept, 195);
+message!(DAttachDetachGroupIdentity, 10, measure_attach_detach, measure_write_attach_detach, 171);
 
 /// What a table times.
 pub trait Table {
@@ -173,31 +205,19 @@ fn original_read<M: Message>(buffer: &mut BitBuffer) -> Result<M, PduParseErr> {
     M::read(buffer)
 }
 
-fn our_read<M: Message>(octets: &[u8], end: usize) -> Answer {
+/// Our record of a message that was read.
+pub fn our_record<M: Message>(answer: &Answer) -> M::Own {
+    const { assert!(size_of::<M::Own>() <= size_of::<OurRecord>()) };
+    // SAFETY: the record of this message stands at the front of the room for any.
+    unsafe { answer.record.as_ptr().cast::<M::Own>().read() }
+}
+
+pub fn our_read<M: Message>(octets: &[u8], end: usize) -> Answer {
     // SAFETY: the pointer and the length are one slice's.
     unsafe { (M::OURS)(octets.as_ptr(), octets.len(), 0, end, STRICT) }
 }
 
 // The records.
-
-fn demand() -> ULocationUpdateDemand {
-    ULocationUpdateDemand {
-        location_update_type: LocationUpdateType::ItsiAttach,
-        request_to_append_la: false,
-        cipher_control: false,
-        ciphering_parameters: None,
-        class_of_ms: None,
-        energy_saving_mode: None,
-        la_information: None,
-        ssi: None,
-        address_extension: None,
-        group_identity_location_demand: None,
-        group_report_response: None,
-        authentication_uplink: None,
-        extended_capabilities: None,
-        proprietary: None,
-    }
-}
 
 /// Every element, the list with `count` groups.
 fn full_demand(count: u32) -> ULocationUpdateDemand {
@@ -254,34 +274,18 @@ fn downlink(i: u32) -> GroupIdentityDownlink {
 
 fn attach_detach(count: u32) -> DAttachDetachGroupIdentity {
     DAttachDetachGroupIdentity {
-        group_identity_report: false,
-        group_identity_acknowledgement_request: true,
-        group_identity_attach_detach_mode: true,
-        proprietary: None,
-        group_report_response: None,
         group_identity_downlink: Some((0..count).map(downlink).collect()),
-        group_identity_security_related_information: None,
+        ..records::attach_detach()
     }
 }
 
 fn accept(count: u32) -> DLocationUpdateAccept {
     DLocationUpdateAccept {
-        location_update_accept_type: LocationUpdateType::ItsiAttach,
         ssi: Some(0x12_3456),
-        address_extension: None,
-        subscriber_class: None,
-        energy_saving_information: None,
-        scch_information_and_distribution_on_18th_frame: None,
-        new_registered_area: None,
-        security_downlink: None,
         group_identity_location_accept: Some(GroupIdentityLocationAccept {
             group_identity_accept_reject: 0,
             group_identity_downlink: Some((0..count).map(downlink).collect()),
         }),
-        default_group_attachment_lifetime: None,
-        authentication_downlink: None,
-        group_identity_security_related_information: None,
-        cell_type_control: None,
-        proprietary: None,
+        ..records::accept()
     }
 }

@@ -1,13 +1,28 @@
-//! One call of the library held against what it must answer, the flat buffer included.
+//! One reading of the library held against what it must answer, the flat buffer included.
 
+use oracle::Fault;
 use tetra_mm::{FLAT_MAX, Message, Reading};
 
 use crate::form;
 use crate::judge::{self, Answer, Departure, Judged};
 use crate::window::Window;
 
-/// The call as the library has it: message, reading, octets, first, end, flat buffer.
-pub type Library = fn(u64, u64, &[u8], u64, u64, &mut [u8]) -> u64;
+/// The calls as the library has them.
+#[derive(Clone, Copy)]
+pub struct Library {
+    pub read: Read,
+    pub rewrite: Rewrite,
+}
+
+/// Message, reading, octets, first, end, flat buffer.
+pub type Read = fn(u64, u64, &[u8], u64, u64, &mut [u8]) -> u64;
+
+/// Message, octets, first, end, output, its first, its end.
+pub type Rewrite = fn(u64, &[u8], u64, u64, &mut [u8], u64, u64) -> u64;
+
+impl Library {
+    pub const LINKED: Self = Self { read: tetra_mm::read_into, rewrite: tetra_mm::rewrite_into };
+}
 
 /// What a call is given besides the octets; any numbers.
 #[derive(Clone, Copy, Debug, PartialEq, Eq)]
@@ -27,28 +42,26 @@ fn pattern(at: usize) -> u8 {
 }
 
 pub struct Checker {
-    library: Library,
+    library: Read,
     before: Vec<u8>,
     buffer: Vec<u8>,
 }
 
 impl Checker {
-    pub fn new(library: Library) -> Self {
+    pub fn new(library: Read) -> Self {
         let before: Vec<u8> = (0..FLAT_MAX + BEHIND).map(pattern).collect();
         Self { library, buffer: before.clone(), before }
     }
 
-    pub fn library(&self) -> Library {
-        self.library
-    }
-
-    /// Both readings of a window that passes question 1: what was answered, or what differs.
+    /// Both readings of a window that passes question 1, of which this is the original's answer: what was
+    /// answered, or what differs.
     pub fn window(
         &mut self,
         message: Message,
         window: &Window,
+        original: &Result<oracle::Read, Fault>,
     ) -> [(Judged, Result<(), String>); 2] {
-        let strict = judge::strict(message, window);
+        let strict = judge::strict_of(original);
         let (skipping, strict_refuses) = judge::skipping(message, window);
         let mut checks =
             [(strict, Reading::Strict), (skipping, Reading::Skipping)].map(|(judged, reading)| {

@@ -19,10 +19,29 @@ pub enum Departure {
     Limits,
     ShortType4,
     LongContent,
+    // Of rewriting.
+    OutputLimits,
+    LongGeneric,
+    NoAddress,
+    Type4Generic,
+    OtherFaultFirst,
+    NoSpace,
+    BitsLeft,
 }
 
 impl Departure {
-    pub const ALL: [Self; 3] = [Self::Limits, Self::ShortType4, Self::LongContent];
+    pub const ALL: [Self; 10] = [
+        Self::Limits,
+        Self::ShortType4,
+        Self::LongContent,
+        Self::OutputLimits,
+        Self::LongGeneric,
+        Self::NoAddress,
+        Self::Type4Generic,
+        Self::OtherFaultFirst,
+        Self::NoSpace,
+        Self::BitsLeft,
+    ];
 
     pub fn name(self) -> &'static str {
         match self {
@@ -31,6 +50,23 @@ impl Departure {
             Self::LongContent => {
                 "content over 64 bits that leaves the window (the original panics): 2"
             }
+            Self::OutputLimits => "question 1 of the output (the original is not asked): 1",
+            Self::LongGeneric => {
+                "a generic element over 64 bits rewritten (the original panics): 8"
+            }
+            Self::NoAddress => {
+                "an uplink group without an address rewritten (the original panics): 11"
+            }
+            Self::Type4Generic => {
+                "a generic type 4 element rewritten (the original panics, `unimplemented!`): 14"
+            }
+            Self::OtherFaultFirst => {
+                "two faults of a record, of which the original meets the later question's: the earlier"
+            }
+            Self::NoSpace => {
+                "rewritten in one bit less than the message has (the original panics): 16"
+            }
+            Self::BitsLeft => "a refused writing of which the original leaves bits: none",
         }
     }
 }
@@ -47,16 +83,26 @@ impl Judged {
     }
 }
 
+/// The original's own answer.
+pub fn original(message: Message, window: &Window) -> Result<oracle::Read, Fault> {
+    oracle::answer(message as u64, &window.octets, window.first, window.end)
+}
+
 pub fn strict(message: Message, window: &Window) -> Judged {
-    match oracle::answer(message as u64, &window.octets, window.first, window.end) {
+    strict_of(&original(message, window))
+}
+
+/// What the strict reading has to say where this is the original's answer.
+pub fn strict_of(original: &Result<oracle::Read, Fault>) -> Judged {
+    match original {
         Ok(read) => {
             let record = form::record(&read.record);
             let read = Read { record, consumed: read.consumed, skipped: 0 };
             Judged { answer: Ok(read), departure: None }
         }
         Err(fault) => {
-            let number = fault.read_refusal().map_or(UNKNOWN, |number| number as u8);
-            let departure = match (&fault, number) {
+            let number = read_refusal(fault);
+            let departure = match (fault, number) {
                 (Fault::OutsideLimits, 1) => Some(Departure::Limits),
                 (Fault::Panic(_), 5) => Some(Departure::ShortType4),
                 (Fault::Panic(_), 2) => Some(Departure::LongContent),
@@ -65,6 +111,11 @@ pub fn strict(message: Message, window: &Window) -> Judged {
             Judged { answer: Err(number), departure }
         }
     }
+}
+
+/// The number that document 01 has for this fault of a reading.
+pub fn read_refusal(fault: &Fault) -> u8 {
+    fault.read_refusal().map_or(UNKNOWN, |number| number as u8)
 }
 
 fn strict_bits(message: Message, bits: &[bool]) -> Judged {

@@ -7,6 +7,7 @@ pub mod judge;
 pub mod random;
 pub mod record;
 pub mod report;
+pub mod rewriting;
 pub mod walk;
 pub mod window;
 pub mod windows;

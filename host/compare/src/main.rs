@@ -1,7 +1,9 @@
-//! Compares the library with the original: [COUNT] [SEED]. A window is read strictly and skipping.
+//! Compares the library with the original: [COUNT] [SEED]. A window is read strictly and skipping, and
+//! rewritten.
 
 use std::process::ExitCode;
 
+use compare::check::Library;
 use compare::random::Random;
 use compare::report::Report;
 use compare::windows;
@@ -18,7 +20,7 @@ fn main() -> ExitCode {
         eprintln!("usage: compare [COUNT] [SEED]");
         return ExitCode::from(2);
     };
-    let mut report = Report::new(tetra_mm::read_into);
+    let mut report = Report::new(Library::LINKED);
     let mut random = Random::new(seed);
     windows::fixed(&mut report, &mut random);
     println!("{} fixed windows, and {count} drawn with seed {seed}", report.compared());

@@ -8,6 +8,7 @@ use crate::draft::{
 };
 use crate::random::Random;
 use crate::report::Report;
+use crate::rewriting::{self, Outcome};
 use crate::walk::{identifiers, type2_widths};
 use crate::window::{Window, push};
 
@@ -22,6 +23,7 @@ pub fn fixed(report: &mut Report, random: &mut Random) {
     every_bit(report, random);
     many_unlisted(report, random);
     limits(report, random);
+    rewriting_limits(report, random);
 }
 
 fn compare(report: &mut Report, random: &mut Random, message: Message, bits: &[bool]) {
@@ -54,10 +56,12 @@ fn combinations(report: &mut Report, random: &mut Random) {
     for message in MESSAGES {
         for type2 in 0..1 << type2_widths(message).len() {
             for listed in 0..1 << identifiers(message).len() {
-                let draft = Draft::new(message, type2, random).listed(listed, random);
-                compare(report, random, message, &draft.bits());
-                let draft = draft.unlisted(1 + random.below(3), random);
-                compare(report, random, message, &draft.bits());
+                for _ in 0..4 {
+                    let draft = Draft::new(message, type2, random).listed(listed, random);
+                    compare(report, random, message, &draft.bits());
+                    let draft = draft.unlisted(1 + random.below(3), random);
+                    compare(report, random, message, &draft.bits());
+                }
             }
         }
     }
@@ -151,47 +155,96 @@ fn many_unlisted(report: &mut Report, random: &mut Random) {
     }
 }
 
-/// Calls that question 1 refuses: each of its parts, at the boundary and far from it.
+/// Counts of octets, and bits that are no window of them, or of more than a call may have: at the boundary
+/// and far from it.
+fn no_windows() -> Vec<(usize, u64, u64)> {
+    let mut windows = vec![];
+    for count in [4097, 4098, 4200] {
+        windows.extend([(count, 0, 10), (count, 0, 0), (count, 0, 8 * count as u64)]);
+    }
+    for count in [0, 1, 2, 5, 4096] {
+        let bits = 8 * count as u64;
+        windows.extend(
+            [(0, bits + 1), (bits, bits + 1), (bits + 1, bits + 1), (bits + 1, bits), (1, 0)]
+                .map(|(first, end)| (count, first, end)),
+        );
+        for far in [1 << 16, 1 << 32, 1 << 61, (1 << 61) + 1, 1 << 63, u64::MAX - 7, u64::MAX] {
+            windows.extend(
+                [(0, far), (far, far), (far, 0), (far, bits), (far - 1, far)]
+                    .map(|(first, end)| (count, first, end)),
+            );
+        }
+    }
+    windows
+}
+
+/// Numbers that are no message's, some of which have one's low bits.
+fn no_messages() -> impl Iterator<Item = u64> {
+    let above = |message| [1 << 8, 1 << 16, 1 << 32, 1 << 63].map(|above| message + above);
+    let known = MESSAGES.map(|message| message as u64);
+    (0..=17)
+        .filter(move |message| !known.contains(message))
+        .chain(known.into_iter().flat_map(above))
+}
+
+/// Calls that question 1 refuses, by each of its parts.
 fn limits(report: &mut Report, random: &mut Random) {
     let octets: Vec<u8> = (0..4200).map(|_| random.next() as u8).collect();
     let mut call = |message, reading, count: usize, first, end| {
         report.limits(Call { message, reading, first, end }, &octets[..count]);
     };
-    let far = [1 << 16, 1 << 32, 1 << 61, (1 << 61) + 1, 1 << 63, u64::MAX - 7, u64::MAX];
     for reading in [0, 1] {
-        for message in 0..=17 {
-            if ![2, 5, 10].contains(&message) {
-                call(message, reading, 2, 0, 10);
-            }
+        for message in no_messages() {
+            call(message, reading, 2, 0, 10);
         }
-        for message in [2, 5, 10] {
-            for count in [4097, 4098, 4200] {
-                call(message, reading, count, 0, 10);
-                call(message, reading, count, 0, 0);
-                call(message, reading, count, 0, 8 * count as u64);
+        for message in MESSAGES.map(|message| message as u64) {
+            for (count, first, end) in no_windows() {
+                call(message, reading, count, first, end);
             }
-            for count in [0, 1, 2, 5, 4096] {
-                let bits = 8 * count as u64;
-                call(message, reading, count, 0, bits + 1);
-                call(message, reading, count, bits, bits + 1);
-                call(message, reading, count, bits + 1, bits + 1);
-                call(message, reading, count, bits + 1, bits);
-                call(message, reading, count, 1, 0);
-                for number in far {
-                    call(message, reading, count, 0, number);
-                    call(message, reading, count, number, number);
-                    call(message, reading, count, number, 0);
-                    call(message, reading, count, number, bits);
-                    call(message, reading, count, number - 1, number);
-                }
-            }
-            // A number that is the message's, or the reading's, in its low bits only.
+            // A number that is the reading's in its low bits only.
             for above in [1 << 8, 1 << 16, 1 << 32, 1 << 63] {
-                call(message + above, reading, 2, 0, 10);
                 call(message, reading + above, 2, 0, 10);
             }
             for other in [2, 3, 255, u64::MAX] {
                 call(message, other, 2, 0, 10);
+            }
+        }
+    }
+}
+
+/// Rewritings that question 1 refuses, of the input and of the output, and outputs that just pass it.
+fn rewriting_limits(report: &mut Report, random: &mut Random) {
+    let out: Vec<u8> = (0..4200).map(|_| random.next() as u8).collect();
+    for message in no_messages() {
+        let call = rewriting::Call { message, first: 0, end: 10, out_first: 3, out_end: 24 };
+        report.rewriting_limits(call, &[0x26, 0x00], &out[..3]);
+    }
+    for (message, octets) in MESSAGES.into_iter().zip([[0x26, 0x00], [0x56, 0x00], [0xa6, 0x00]]) {
+        let window = Window { octets: octets.to_vec(), first: 0, end: 16 };
+        for (count, first, end) in no_windows() {
+            let input = rewriting::Call::new(message, &window, 3, 24);
+            let octets = &out[..count];
+            report.rewriting_limits(rewriting::Call { first, end, ..input }, octets, &out[..3]);
+            let output = rewriting::Call { out_first: first, out_end: end, ..input };
+            report.rewriting_limits(output, &window.octets, &out[..count]);
+            report.rewriting_limits(
+                rewriting::Call { first, end, ..output },
+                octets,
+                &out[..count],
+            );
+        }
+        let bits = match message {
+            Message::Demand => 10,
+            Message::Accept | Message::AttachDetach => 8,
+        };
+        let bits_written = Window { end: bits, ..window.clone() }.bits();
+        let outcome = Outcome::Written(bits_written);
+        for count in [0, 1, 2, 5, 4096] {
+            let (before, last) = (&out[..count], 8 * count);
+            for first in [0, last.saturating_sub(bits), last.saturating_sub(bits - 1), last] {
+                let call = rewriting::Call::new(message, &window, first, last);
+                let (result, after) = outcome.result(before, first, last);
+                report.rewriting(call, &window.octets, before, result, &after);
             }
         }
     }
@@ -207,7 +260,16 @@ pub enum Drawn {
 pub fn drawn(report: &mut Report, random: &mut Random) {
     match draw(random) {
         Drawn::Window(message, window) => report.window(message, &window),
-        Drawn::Limits(call, octets) => report.limits(call, &octets),
+        Drawn::Limits(call, octets) => {
+            report.limits(call, &octets);
+            let Call { message, reading, first, end } = call;
+            if reading <= 1 {
+                let out: Vec<u8> = (0..random.below(8)).map(|_| random.next() as u8).collect();
+                let (out_first, out_end) = (0, 8 * out.len() as u64);
+                let call = rewriting::Call { message, first, end, out_first, out_end };
+                report.rewriting_limits(call, &octets, &out);
+            }
+        }
     }
 }
 

@@ -3,6 +3,10 @@
 
 pub mod bit_trials;
 mod panics;
+mod questions;
+pub mod records;
+pub mod write_trials;
+pub mod written;
 
 pub use panics::{Panic, catch};
 
@@ -45,6 +49,14 @@ pub enum Record {
 }
 
 impl Record {
+    pub fn message(&self) -> Message {
+        match self {
+            Self::Demand(_) => Message::Demand,
+            Self::Accept(_) => Message::Accept,
+            Self::AttachDetach(_) => Message::AttachDetach,
+        }
+    }
+
     fn from_bitbuf(message: Message, buffer: &mut BitBuffer) -> Result<Self, PduParseErr> {
         match message {
             Message::Demand => ULocationUpdateDemand::from_bitbuf(buffer).map(Self::Demand),
@@ -93,6 +105,31 @@ impl Fault {
             },
         }
     }
+
+    /// Document 01's number of the question that this fault of a write answers, if it can be told.
+    pub fn write_refusal(&self) -> Option<Refusal> {
+        match self {
+            Self::OutsideLimits => Some(1),
+            Self::Error(PduParseErr::Inconsistency { .. }) => Some(11),
+            Self::Error(PduParseErr::InvalidValue { .. }) => Some(12),
+            Self::Error(PduParseErr::FieldNotPresent { .. }) => Some(13),
+            Self::Error(_) => None,
+            Self::Panic(panic) => match panic.message.as_str() {
+                "can only write up to 64 bits" => Some(8),
+                // The length of a structure or of a list. A generic length over 2,047, which is 8, can't
+                // be told from these.
+                message if message.starts_with("value exceeds") && message.ends_with(" 11") => {
+                    Some(15)
+                }
+                message if message.starts_with("value exceeds") => Some(8),
+                message if message.starts_with("need one of") => Some(10),
+                message if message.starts_with("vgssi should be") => Some(11),
+                message if message.starts_with("not implemented") => Some(14),
+                message if message.ends_with("would exceed buffer end") => Some(16),
+                _ => None,
+            },
+        }
+    }
 }
 
 #[derive(Debug)]
@@ -134,15 +171,31 @@ pub struct Written {
 /// A fault has no number here: the original doesn't meet faults in the order in which document 01
 /// asks its questions, so answers compare only for records that pass them.
 pub fn write(record: &Record, octets: &[u8], first: usize, end: usize) -> Result<Written, Fault> {
+    let (octets, bits) = attempt(record, octets, first, end)?;
+    Ok(Written { octets, bits: bits? })
+}
+
+/// The same, all the octets as they are afterwards, and the bits written or the fault that was met.
+pub fn attempt(
+    record: &Record,
+    octets: &[u8],
+    first: usize,
+    end: usize,
+) -> Result<(Vec<u8>, Result<usize, Fault>), Fault> {
     let mut buffer = window(octets, first, end).ok_or(Fault::OutsideLimits)?;
-    call(|| record.to_bitbuf(&mut buffer))?;
+    let written = call(|| record.to_bitbuf(&mut buffer));
     let bits = buffer.get_pos();
-    Ok(Written { octets: buffer.into_bytes(), bits })
+    Ok((buffer.into_bytes(), written.map(|()| bits)))
+}
+
+/// Whether document 01's first question allows bits `first..end` of so many octets.
+pub fn is_window(count: usize, first: usize, end: usize) -> bool {
+    count <= MAX_OCTETS && first <= end && end <= 8 * count
 }
 
 /// A buffer over bits `first..end` of the octets, if document 01's first question allows it.
 pub fn window(octets: &[u8], first: usize, end: usize) -> Option<BitBuffer> {
-    if octets.len() > MAX_OCTETS || first > end || end > 8 * octets.len() {
+    if !is_window(octets.len(), first, end) {
         return None;
     }
     let mut buffer = BitBuffer::from_bytes(octets);
@@ -151,6 +204,12 @@ pub fn window(octets: &[u8], first: usize, end: usize) -> Option<BitBuffer> {
     buffer.set_raw_start(first);
     buffer.set_raw_end(end);
     Some(buffer)
+}
+
+/// 64 bits wide.
+pub fn fnv1a(octets: &[u8]) -> u64 {
+    let step = |hash: u64, &octet: &u8| (hash ^ u64::from(octet)).wrapping_mul(0x100_0000_01b3);
+    octets.iter().fold(0xcbf2_9ce4_8422_2325, step)
 }
 
 fn call<T>(original: impl FnOnce() -> Result<T, PduParseErr>) -> Result<T, Fault> {

@@ -3,18 +3,12 @@
 //! The bits of a message and its record are both worked from the paper. Each message stands at
 //! several bits of its octets, with ones all around.
 
+use oracle::records::*;
 use oracle::{Fault, Panic, Read, Record, Written};
 use tetra_core::pdu_parse_error::PduParseErr;
-use tetra_core::typed_pdu_fields::{Type3FieldGeneric, Type4FieldGeneric};
 use tetra_pdus::mm::enums::energy_saving_mode::EnergySavingMode;
-use tetra_pdus::mm::enums::location_update_type::LocationUpdateType;
-use tetra_pdus::mm::fields::class_of_ms::ClassOfMs;
 use tetra_pdus::mm::fields::energy_saving_information::EnergySavingInformation;
-use tetra_pdus::mm::fields::group_identity_downlink::GroupIdentityDownlink;
-use tetra_pdus::mm::fields::group_identity_location_accept::GroupIdentityLocationAccept;
-use tetra_pdus::mm::fields::group_identity_location_demand::GroupIdentityLocationDemand;
 use tetra_pdus::mm::fields::group_identity_uplink::GroupIdentityUplink;
-use tetra_pdus::mm::pdus::d_attach_detach_group_identity::DAttachDetachGroupIdentity;
 use tetra_pdus::mm::pdus::d_location_update_accept::DLocationUpdateAccept;
 use tetra_pdus::mm::pdus::u_location_update_demand::ULocationUpdateDemand;
 
@@ -65,119 +59,15 @@ fn attach_detach_bits(elements: &str) -> String {
     ["1010", "0", "1", "1", "1", elements, "0"].concat()
 }
 
-// Records: those of 26 00, 56 and A6, and what the tests add to them.
-
-fn demand() -> ULocationUpdateDemand {
-    ULocationUpdateDemand {
-        location_update_type: LocationUpdateType::ItsiAttach,
-        request_to_append_la: false,
-        cipher_control: false,
-        ciphering_parameters: None,
-        class_of_ms: None,
-        energy_saving_mode: None,
-        la_information: None,
-        ssi: None,
-        address_extension: None,
-        group_identity_location_demand: None,
-        group_report_response: None,
-        authentication_uplink: None,
-        extended_capabilities: None,
-        proprietary: None,
-    }
-}
-
-fn accept() -> DLocationUpdateAccept {
-    DLocationUpdateAccept {
-        location_update_accept_type: LocationUpdateType::ItsiAttach,
-        ssi: None,
-        address_extension: None,
-        subscriber_class: None,
-        energy_saving_information: None,
-        scch_information_and_distribution_on_18th_frame: None,
-        new_registered_area: None,
-        security_downlink: None,
-        group_identity_location_accept: None,
-        default_group_attachment_lifetime: None,
-        authentication_downlink: None,
-        group_identity_security_related_information: None,
-        cell_type_control: None,
-        proprietary: None,
-    }
-}
-
-fn attach_detach() -> DAttachDetachGroupIdentity {
-    DAttachDetachGroupIdentity {
-        group_identity_report: false,
-        group_identity_acknowledgement_request: true,
-        group_identity_attach_detach_mode: true,
-        proprietary: None,
-        group_report_response: None,
-        group_identity_downlink: None,
-        group_identity_security_related_information: None,
-    }
-}
-
-fn demand_with_groups(groups: Option<Vec<GroupIdentityUplink>>) -> Record {
-    Record::Demand(ULocationUpdateDemand {
-        group_identity_location_demand: Some(GroupIdentityLocationDemand {
-            group_identity_attach_detach_mode: 1,
-            group_identity_uplink: groups,
-        }),
-        ..demand()
-    })
-}
-
-fn accept_with_groups(groups: Option<Vec<GroupIdentityDownlink>>) -> Record {
-    Record::Accept(DLocationUpdateAccept {
-        group_identity_location_accept: Some(GroupIdentityLocationAccept {
-            group_identity_accept_reject: 1,
-            group_identity_downlink: groups,
-        }),
-        ..accept()
-    })
-}
-
-fn attach_detach_with_groups(groups: Option<Vec<GroupIdentityDownlink>>) -> Record {
-    Record::AttachDetach(DAttachDetachGroupIdentity {
-        group_identity_downlink: groups,
-        ..attach_detach()
-    })
-}
-
-/// With element 9, type 3.
-fn demand_with_generic(len: usize, data: u64) -> Record {
-    let field_id = 9;
-    Record::Demand(ULocationUpdateDemand {
-        authentication_uplink: Some(Type3FieldGeneric { field_id, len, data }),
-        ..demand()
-    })
-}
-
-/// With element 2, type 4.
-fn accept_with_generic(len: usize, elems: usize, data: u64) -> Record {
-    let field_id = 2;
-    Record::Accept(DLocationUpdateAccept {
-        new_registered_area: Some(Type4FieldGeneric { field_id, len, elems, data }),
-        ..accept()
-    })
-}
-
 /// Groups of usage 4, and the bits of each.
 fn uplinks(count: u32, extension: Option<u32>) -> (Vec<GroupIdentityUplink>, Vec<String>) {
-    let group = |gssi: u32| GroupIdentityUplink {
-        class_of_usage: Some(4),
-        group_identity_detachment_uplink: None,
-        gssi: Some(gssi),
-        address_extension: extension,
-        vgssi: None,
-    };
     let address = |address: u32| field(address.into(), 24);
     let bits = |gssi: u32| match extension {
         None => ["0", "100", "00", &address(gssi)].concat(),
         Some(extension) => ["0", "100", "01", &address(gssi), &address(extension)].concat(),
     };
     let gssis = 0x80_0001..0x80_0001 + count;
-    (gssis.clone().map(group).collect(), gssis.map(bits).collect())
+    (gssis.clone().map(|gssi| uplink(gssi, extension)).collect(), gssis.map(bits).collect())
 }
 
 // Checks.
@@ -259,31 +149,8 @@ fn an_o_bit_with_nothing_behind_it_is_not_written_back() {
 
 #[test]
 fn a_class_word_with_the_version_alone() {
-    let class = ClassOfMs {
-        freq_simplex_duplex: false,
-        multislot_phase_mod: false,
-        concurrent_multicarrier: false,
-        voice: false,
-        e2e_encryption_not_supported: false,
-        circuit_mode_data: false,
-        tetra_packet_data: false,
-        fast_switching: false,
-        dck_encryption: false,
-        clch_needed: false,
-        concurrent_circuit_mode: false,
-        original_advanced_link: false,
-        minimum_mode: false,
-        carrier_specific_signalling: false,
-        authentication: false,
-        sck_encryption: false,
-        air_interface_version: 7,
-        common_scch: false,
-        reserved_21: false,
-        mac_d_blck: false,
-        extended_advanced_link: false,
-        d8psk: false,
-    };
-    let record = Record::Demand(ULocationUpdateDemand { class_of_ms: Some(class), ..demand() });
+    let record =
+        Record::Demand(ULocationUpdateDemand { class_of_ms: Some(class_of_ms(7)), ..demand() });
     let word = hex("0000E0", 24);
     let bits = ["0010", "011", "0", "0", "1", "1", &word, "0000", "0"].concat();
     assert_reads_and_writes(DEMAND, &bits, &record);

@@ -1,4 +1,5 @@
-//! The proved reader, for Rust: `tetra_mm_read` of include/tetra_mm.h, and records of its flat form.
+//! The proved reader and rewriter, for Rust: `tetra_mm_read` of include/tetra_mm.h, with records of its
+//! flat form, and `tetra_mm_rewrite`.
 //!
 //! ```
 //! use tetra_mm::{Message, Reading, Record};
@@ -65,6 +66,7 @@ pub fn read(
 
 /// The call itself: the flat form comes to the front of `flat`, the result is 64 times the bits
 /// consumed plus the refusal's number.
+#[inline]
 pub fn read_into(
     message: u64,
     reading: u64,
@@ -96,6 +98,81 @@ pub fn read_into(
             end,
             flat.as_mut_ptr(),
             flat.len(),
+        )
+    }
+}
+
+/// Reads the message strictly in bits `first..end` of the octets and writes its record to the front of
+/// bits `out_first..out_end` of `out`, where every other bit is kept; gives the bits written, or document
+/// 01's number of the refusal, which changes nothing.
+///
+/// ```
+/// use tetra_mm::Message;
+///
+/// // A demand whose O-bit announces optional elements, of which there are none: written without it.
+/// let mut out = [0xff; 3];
+/// assert_eq!(tetra_mm::rewrite(Message::Demand, &[0x26, 0x40], 0, 16, &mut out, 0, 24), Ok(10));
+/// assert_eq!(out, [0x26, 0x3f, 0xff]);
+///
+/// // It doesn't fit 9 bits.
+/// let mut out = [0xff; 3];
+/// assert_eq!(tetra_mm::rewrite(Message::Demand, &[0x26, 0x40], 0, 16, &mut out, 8, 17), Err(16));
+/// assert_eq!(out, [0xff; 3]);
+/// ```
+pub fn rewrite(
+    message: Message,
+    octets: &[u8],
+    first: usize,
+    end: usize,
+    out: &mut [u8],
+    out_first: usize,
+    out_end: usize,
+) -> Result<usize, u8> {
+    let (first, end) = (first as u64, end as u64);
+    let (out_first, out_end) = (out_first as u64, out_end as u64);
+    let result = rewrite_into(message as u64, octets, first, end, out, out_first, out_end);
+    match (result % 64) as u8 {
+        0 => Ok((result / 64) as usize),
+        refusal => Err(refusal),
+    }
+}
+
+/// The call itself: the result is 64 times the bits written plus the refusal's number.
+#[inline]
+pub fn rewrite_into(
+    message: u64,
+    octets: &[u8],
+    first: u64,
+    end: u64,
+    out: &mut [u8],
+    out_first: u64,
+    out_end: u64,
+) -> u64 {
+    unsafe extern "C" {
+        fn tetra_mm_rewrite(
+            message: u64,
+            octets: *const u8,
+            octets_len: usize,
+            first: u64,
+            end: u64,
+            out: *mut u8,
+            out_len: usize,
+            out_first: u64,
+            out_end: u64,
+        ) -> u64;
+    }
+    // SAFETY: both slices are whole, and a shared and an exclusive one don't overlap.
+    unsafe {
+        tetra_mm_rewrite(
+            message,
+            octets.as_ptr(),
+            octets.len(),
+            first,
+            end,
+            out.as_mut_ptr(),
+            out.len(),
+            out_first,
+            out_end,
         )
     }
 }

@@ -1,20 +1,21 @@
--- `replay::digest` meets its contract. Assumes nothing.
-use Prim.Native.Nat.{_≤_, _-_}
+-- `replay::digest` meets its contract: the invariant is that `i` is at most the length. Assumes nothing.
 use borrow.Author.Needs.{needs}
+use Prim.Native.Nat.{_≤_, _-_}
+use lib.ListN.{length}
 use Rattle.replay.proofs.digest.Statement.{statement}
 use Rattle.replay.proofs.digest.Tie as tie
 
 abbrev Inv-loop : tie.InvT-loop
-Inv-loop flat hash₀ i₀ hash i = i ≤ 3773
+Inv-loop octets hash₀ i₀ hash i = i ≤ length octets
 
 abbrev μ-loop : tie.MeasureT-loop
-μ-loop flat hash₀ i₀ hash i = 3773 - i
+μ-loop octets hash₀ i₀ hash i = length octets - i
 
 loop-holds : tie.Need-loop-holds Inv-loop μ-loop
 loop-holds c = search needs
 
-element-copy-out-mixed : tie.Need-element-copy-out-mixed Inv-loop μ-loop
-element-copy-out-mixed c = search needs
+shared-slice-read-mixed : tie.Need-shared-slice-read-mixed Inv-loop μ-loop
+shared-slice-read-mixed c = search needs
 
 mixed-requires : tie.Need-mixed-requires Inv-loop μ-loop
 mixed-requires c κs = search needs
@@ -38,7 +39,7 @@ digest-spec =
     Inv-loop
     μ-loop
     loop-holds
-    element-copy-out-mixed
+    shared-slice-read-mixed
     mixed-requires
     add-i
     loop-less

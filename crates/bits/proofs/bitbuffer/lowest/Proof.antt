@@ -1,5 +1,4 @@
 -- `bits::bitbuffer::lowest` meets its contract. Assumes nothing.
-use Prim.Native.Nat.{_%_, _^_}
 use native.Mathlib.Nat.{mod-eq-of-lt, lt-of-lt-of-le}
 use mathlib.Core.Path.{sym}
 use lib.Pow.{pow-mono}

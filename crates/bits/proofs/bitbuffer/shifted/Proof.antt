@@ -1,5 +1,5 @@
 -- `bits::bitbuffer::shifted` meets its contract. Assumes nothing.
-use Prim.Native.Nat.{ℕ, _*_, _%_, _^_}
+use Prim.Native.Nat.{_^_}
 use native.Mathlib.Nat.{mul-mod-left}
 use mathlib.Core.Path.{_≡_, sym}
 use native.Mathlib.Omega.{arith}

@@ -1,7 +1,8 @@
 -- `elements::class_of_ms::parse_type2_class_of_ms` meets its contract: the 22 fields are one field of 24 bits, split.
-use Rattle.bits.specs.Reader.{word}
-use Rattle.bits.specs.Placed.{asField8, asField32}
-use Rattle.bits.specs.PlacedLaws.{so, by, by-refusal}
+use Rattle.bits.specs.Reader.{field, word}
+use Rattle.bits.specs.Placed.{placed, asField8, asField32}
+use Rattle.bits.specs.PlacedLaws.{Gives, so, by, by-refusal}
+use Rattle.elements.specs.Numbers.{flagWidth}
 use Rattle.elements.specs.ClassOfMsLaws.{class-local, class-there, class-ended}
 use mathlib.Core.Path.{ap}
 use Rattle.bits.specs.ReaderLaws.{local-tail}
@@ -9,6 +10,11 @@ use Rattle.elements.specs.PlacedOptional.{type2-ended, type2-refused, ty
 use borrow.Author.Needs.{needs}
 use Rattle.elements.proofs.class_of_ms.parse_type2_class_of_ms.Statement.{statement}
 use Rattle.elements.proofs.class_of_ms.parse_type2_class_of_ms.Tie as tie
+
+-- the P-bit
+announced : (c : tie.After-f) → let a = c .before .before .before .before .args in Gives (field flagWidth) (a .octets .now) (a .c) (placed (c .f .given .0 .0) (c .f .given .0 .1 .0))
+unfolding word
+announced c = by (c .before .before .read-u8 .ensures) (ap asField8 (c .f .given .1))
 
 read-u8-requires : tie.Need-read-u8-requires
 read-u8-requires c κs = search needs
@@ -44,7 +50,7 @@ unfolding word
 returns-2 c =
     so
     (type2-refused _ _
-    (by (c .before .before .before .before .before .before .before .before .read-u8 .ensures) (ap asField8 (c .before .before .before .before .before .before .f .given .1))) (c .before .before .before .before .if1 .taken)
+    (announced (c .before .before .before .before .before .before)) (c .before .before .before .before .if1 .taken)
     (class-ended (by-refusal (c .before .before .before .read-u32 .ensures) (ap asField32 (c .before .enum-told2 .given .1)) (c .refusal2 .ensures))))
 
 fields-requires : tie.Need-fields-requires
@@ -56,13 +62,13 @@ returns-3 c =
     rw (c .fields .ensures)
     (so
     (type2-read _ _
-    (by (c .before .before .before .before .before .before .before .before .before .read-u8 .ensures) (ap asField8 (c .before .before .before .before .before .before .before .f .given .1))) (c .before .before .before .before .before .if1 .taken) (local-tail class-local)
+    (announced (c .before .before .before .before .before .before .before)) (c .before .before .before .before .before .if1 .taken) (local-tail class-local)
     (class-there (by (c .before .before .before .before .read-u32 .ensures) (ap asField32 (c .before .before .w .given .1))))))
 
 returns-4 : tie.Need-returns-4
 unfolding word
 returns-4 c =
-    so (type2-absent _ _ (by (c .before .before .before .before .read-u8 .ensures) (ap asField8 (c .before .before .f .given .1))) (c .if1 .left))
+    so (type2-absent _ _ (announced (c .before .before)) (c .if1 .left))
 
 pub parse-type2-class-of-ms-spec : {M : Type 1} → statement M
 parse-type2-class-of-ms-spec =

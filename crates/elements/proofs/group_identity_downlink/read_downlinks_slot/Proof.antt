@@ -1,74 +1,135 @@
--- `elements::group_identity_downlink::read_downlinks_slot` meets its contract: by the laws of a slot, with the list's answer as it came.
-use mathlib.Core.Path.{refl, _∙_, ap}
+-- `elements::group_identity_downlink::read_downlinks_slot` meets its contract: the loop's invariant says that the groups read so far stand
+-- at the front of the array, and that what is left to read is what was asked for; by the laws of a list's slot.
+use native.Mathlib.Omega.{arith}
+use Prim.Native.Nat.{_-_}
+use mathlib.Core.Path.{ap}
 use borrow.Author.Needs.{needs}
-use Rattle.bits.specs.PlacedTimes.{alike}
-use Rattle.bits.specs.PlacedLaws.{by, by-refusal, done}
-use Rattle.elements.specs.PlacedLocations.{sized-kept, row-there}
-use Rattle.elements.specs.Rows.{sized}
-use Rattle.elements.specs.Lists.{downlinks, list}
-use Rattle.elements.specs.Kinds.{row, ofDownlinks, isDownlinks, contentOf, identifierOf, content}
-use Rattle.elements.specs.Answers.{asOptionalU8}
-use Rattle.elements.specs.GroupAnswers.{downlinksAnswer, downlinksSlot}
+use Rattle.bits.specs.Placed.{placed}
+use Rattle.bits.specs.PlacedLaws.{Gives, by, by-refusal}
+use Rattle.elements.specs.Lists.{downlinks}
+use Rattle.elements.specs.ListsLaws.{downlinks-sound}
+use Rattle.elements.specs.Fronts.{listFront, asListFront}
+use Rattle.elements.specs.GroupAnswers.{asDownlink, downlinksAnswer}
 use Rattle.elements.specs.Verdicts.{answer}
-use Rattle.elements.specs.PlacedTable.{slot-outside, slot-absent}
+use Rattle.elements.specs.PlacedLists.{Filled, filled-none, no-front, few, group-refused, group-read, list-on, list-whole, list-inexact}
 use Rattle.elements.proofs.group_identity_downlink.read_downlinks_slot.Statement.{statement}
 use Rattle.elements.proofs.group_identity_downlink.read_downlinks_slot.Tie as tie
 
-peek-type34-mbit-and-id-requires : tie.Need-peek-type34-mbit-and-id-requires
-peek-type34-mbit-and-id-requires c κs = search needs
+abbrev Inv-loop : tie.InvT-loop
+Inv-loop octets there identifier front first groups₀ place₀ i₀ groups place i = Filled downlinks (front .present) octets (front .count) first groups place i
 
-enum-known-l : tie.Need-enum-known-l
+abbrev μ-loop : tie.MeasureT-loop
+μ-loop octets there identifier front first groups₀ place₀ i₀ groups place i = front .count - i
+
+-- the front is read
+fronted : (c : tie.After-l Inv-loop μ-loop) → let a = c .before .before .before .before .args in
+    Gives (listFront (a .identifier) (a .there)) (a .octets .now) (a .c) (placed (c .l .given .0 .0) (c .l .given .0 .1 .0))
+fronted c = by (c .before .before .read-list-front .ensures) (ap asListFront (c .l .given .1))
+
+read-list-front-requires : tie.Need-read-list-front-requires Inv-loop μ-loop
+read-list-front-requires c κs = search needs
+
+enum-known-l : tie.Need-enum-known-l Inv-loop μ-loop
 enum-known-l c = search needs
 
-enum-told : tie.Need-enum-told
+enum-told : tie.Need-enum-told Inv-loop μ-loop
 enum-told c = search needs
 
-refusal-requires : tie.Need-refusal-requires
+refusal-requires : tie.Need-refusal-requires Inv-loop μ-loop
 refusal-requires c κs = search needs
 
-no-downlinks-requires : tie.Need-no-downlinks-requires
+no-downlinks-requires : tie.Need-no-downlinks-requires Inv-loop μ-loop
 no-downlinks-requires c κs = search needs
 
-returns : tie.Need-returns
-unfolding downlinksSlot
+returns : tie.Need-returns Inv-loop μ-loop
 returns c =
     rw (c .no-downlinks .ensures)
-    (answer downlinksAnswer (slot-outside identifierOf content (row (c .before .before .before .before .before .before .args .identifier) ofDownlinks) _
-    (by-refusal (c .before .before .before .before .peek-type34-mbit-and-id .ensures) (ap asOptionalU8 (c .before .before .enum-told .given .1)) (c .before .refusal .ensures))))
+    (answer downlinksAnswer (no-front downlinks (c .before .before .before .before .before .before .args .identifier) (c .before .before .before .before .before .before .args .there) (by-refusal (c .before .before .before .before .read-list-front .ensures) (ap asListFront (c .before .before .enum-told .given .1)) (c .before .refusal .ensures))))
 
-parse-downlinks-requires : tie.Need-parse-downlinks-requires
-parse-downlinks-requires c κs = search needs
+loop-holds : tie.Need-loop-holds Inv-loop μ-loop
+loop-holds c = filled-none downlinks _
 
-returns-2 : tie.Need-returns-2
-unfolding downlinksSlot contentOf
-returns-2 c =
-    c .parse-downlinks .ensures ∙ answer downlinksAnswer
-    (row-there ofDownlinks (list downlinks) isDownlinks (λ e. e .downlinks) refl
-    (record { head = c .before .before .before .before .before .l .given .0 .0; opens = by (c .before .before .before .before .before .before .before .peek-type34-mbit-and-id .ensures) (ap asOptionalU8 (c .before .before .before .before .before .l .given .1)); present = c .before .before .before .if1 .taken; is = c .before .if2 .taken })
-    (alike (sized (list downlinks)) (sized-kept (list downlinks) _) (by refl refl)))
+from-bitbuf-requires : tie.Need-from-bitbuf-requires Inv-loop μ-loop
+from-bitbuf-requires c κs = search needs
 
-no-downlinks-requires-2 : tie.Need-no-downlinks-requires-2
+enum-known-f : tie.Need-enum-known-f Inv-loop μ-loop
+enum-known-f c = search needs
+
+enum-told-2 : tie.Need-enum-told-2 Inv-loop μ-loop
+enum-told-2 c = search needs
+
+refusal-requires-2 : tie.Need-refusal-requires-2 Inv-loop μ-loop
+refusal-requires-2 c κs = search needs
+
+no-downlinks-requires-2 : tie.Need-no-downlinks-requires-2 Inv-loop μ-loop
 no-downlinks-requires-2 c κs = search needs
 
-returns-3 : tie.Need-returns-3
-unfolding downlinksSlot
-returns-3 c =
+returns-2 : tie.Need-returns-2 Inv-loop μ-loop
+returns-2 c =
     rw (c .no-downlinks2 .ensures)
-    (answer downlinksAnswer (slot-absent identifierOf content (row (c .before .before .before .before .before .before .before .args .identifier) ofDownlinks) _
-    (by (c .before .before .before .before .before .peek-type34-mbit-and-id .ensures) (ap asOptionalU8 (c .before .before .before .l .given .1)))
-    (c .before .if1 .came) (λ w. (w .0 .taken, w .2 .left)) (λ w. w .left) done))
+    (answer downlinksAnswer (group-refused downlinks-sound _ _ (fronted (c .before .before .before .before .before .before .before .before .before)) (c .before .before .before .before .before .before .before .loop .inv) (c .before .before .before .before .before .if1 .taken)
+    (by-refusal (c .before .before .before .before .from-bitbuf .ensures) (ap asDownlink (c .before .before .enum-told2 .given .1)) (c .before .refusal2 .ensures))))
+
+mul-groups : tie.Need-mul-groups Inv-loop μ-loop
+mul-groups c =
+    omega (arith, few downlinks-sound _ _ (fronted (c .before .before .before .before .before .before .before .before)) (c .before .before .before .before .before .before .loop .inv))
+
+array-set-from-groups : tie.Need-array-set-from-groups Inv-loop μ-loop
+array-set-from-groups c =
+    omega (arith, few downlinks-sound _ _ (fronted (c .before .before .before .before .before .before .before .before)) (c .before .before .before .before .before .before .loop .inv))
+
+add-i : tie.Need-add-i Inv-loop μ-loop
+add-i c =
+    omega (arith, few downlinks-sound _ _ (fronted (c .before .before .before .before .before .before .before .before)) (c .before .before .before .before .before .before .loop .inv))
+
+loop-less : tie.Need-loop-less Inv-loop μ-loop
+loop-less c = search needs
+
+loop-again : tie.Need-loop-again Inv-loop μ-loop
+loop-again c =
+    group-read downlinks-sound _ _ (fronted (c .before .before .before .before .before .before .before .before)) (c .before .before .before .before .before .before .loop .inv) (c .before .before .before .before .if1 .taken) (by (c .before .before .before .from-bitbuf .ensures) (ap asDownlink (c .before .f .given .1)))
+
+sub-if2 : tie.Need-sub-if2 Inv-loop μ-loop
+sub-if2 c =
+    list-on downlinks-sound _ _ (fronted (c .before .before .before .before)) (c .before .before .loop .inv) (c .if1 .left)
+
+returns-3 : tie.Need-returns-3 Inv-loop μ-loop
+returns-3 c =
+    answer downlinksAnswer (list-whole downlinks-sound _ _ (fronted (c .before .before .before .before .before .before)) (c .before .before .before .before .loop .inv) (c .before .before .if1 .left) (c .if2 .taken))
+
+no-downlinks-requires-3 : tie.Need-no-downlinks-requires-3 Inv-loop μ-loop
+no-downlinks-requires-3 c κs = search needs
+
+returns-4 : tie.Need-returns-4 Inv-loop μ-loop
+returns-4 c =
+    rw (c .no-downlinks3 .ensures)
+    (answer downlinksAnswer (list-inexact downlinks-sound _ _ (fronted (c .before .before .before .before .before .before .before)) (c .before .before .before .before .before .loop .inv) (c .before .before .before .if1 .left) (c .before .if2 .left)))
 
 pub read-downlinks-slot-spec : {M : Type 1} → statement M
 read-downlinks-slot-spec =
     tie.close
     (tie.spec
-    peek-type34-mbit-and-id-requires
+    Inv-loop
+    μ-loop
+    read-list-front-requires
     enum-known-l
     enum-told
     refusal-requires
     no-downlinks-requires
     returns
-    parse-downlinks-requires
-    returns-2
+    loop-holds
+    from-bitbuf-requires
+    enum-known-f
+    enum-told-2
+    refusal-requires-2
     no-downlinks-requires-2
-    returns-3)
+    returns-2
+    mul-groups
+    array-set-from-groups
+    add-i
+    loop-less
+    loop-again
+    sub-if2
+    returns-3
+    no-downlinks-requires-3
+    returns-4)

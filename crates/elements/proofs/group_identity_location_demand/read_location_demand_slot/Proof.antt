@@ -2,13 +2,14 @@
 use mathlib.Core.Path.{refl, ap}
 use borrow.Author.Needs.{needs}
 use Rattle.bits.specs.ReaderLaws.{local-tail}
-use Rattle.bits.specs.Reader.{word}
-use Rattle.bits.specs.Placed.{asField}
-use Rattle.bits.specs.PlacedLaws.{by, by-refusal, done}
+use Rattle.bits.specs.Reader.{field, word}
+use Rattle.bits.specs.Placed.{placed, asField}
+use Rattle.bits.specs.PlacedLaws.{Gives, by, by-refusal, done}
+use Rattle.elements.specs.Table.{lengthWidth}
 use Rattle.elements.specs.Locations.{locationDemand}
 use Rattle.elements.specs.LocationsLaws.{demand-laws}
 use Rattle.elements.specs.Kinds.{row, ofLocationDemand, isLocationDemand, contentOf, identifierOf, content}
-use Rattle.elements.specs.Answers.{asOptionalU8}
+use Rattle.elements.specs.Answers.{opening, asOptionalU8}
 use Rattle.elements.specs.GroupAnswers.{locationDemandSlotAnswer, locationDemandSlot}
 use Rattle.elements.specs.Verdicts.{answer, location-demand-beside, verdict-to, verdict-refused}
 use Rattle.elements.specs.PlacedTable.{slot-outside, slot-absent}
@@ -16,14 +17,23 @@ use Rattle.elements.specs.PlacedLocations.{There, row-no-length, row-ref
 use Rattle.elements.proofs.group_identity_location_demand.read_location_demand_slot.Statement.{statement}
 use Rattle.elements.proofs.group_identity_location_demand.read_location_demand_slot.Tie as tie
 
+-- the look at what stands here
+looked : (c : tie.After-l) → let a = c .before .before .before .before .args in Gives opening (a .octets .now) (a .c) (placed (c .l .given .0 .0) (c .l .given .0 .1 .0))
+looked c = by (c .before .before .peek-type34-mbit-and-id .ensures) (ap asOptionalU8 (c .l .given .1))
+
 -- behind the tests: the element is there
 there : (c : tie.After-read) → let a = c .before .before .before .before .before .before .before .before .before .args in There (a .identifier) (a .octets .now) (a .c) (c .before .before .before .before .before .l .given .0 .1 .0)
 there c = record {
   head = c .before .before .before .before .before .l .given .0 .0;
-  opens = by (c .before .before .before .before .before .before .before .peek-type34-mbit-and-id .ensures) (ap asOptionalU8 (c .before .before .before .before .before .l .given .1));
+  opens = looked (c .before .before .before .before .before);
   present = c .before .before .before .if1 .taken;
   is = c .before .if2 .taken;
 }
+
+-- its length
+measured : (c : tie.After-f) → Gives (field lengthWidth) (c .before .before .before .before .before .before .before .before .before .before .before .args .octets .now) (c .before .before .before .before .before .before .before .l .given .0 .1 .0) (placed (c .f .given .0 .0) (c .f .given .0 .1 .0))
+unfolding word
+measured c = by (c .before .before .read .ensures) (ap asField (c .f .given .1))
 
 peek-type34-mbit-and-id-requires : tie.Need-peek-type34-mbit-and-id-requires
 peek-type34-mbit-and-id-requires c κs = search needs
@@ -88,7 +98,7 @@ returns-3 c =
     rw (c .before .enum-told3 .given .1, c .no-location-demand3 .ensures)
     (answer locationDemandSlotAnswer
     (row-refused ofLocationDemand locationDemand isLocationDemand (λ e. e .locationDemand) refl (there (c .before .before .before .before .before .before .before))
-    (by (c .before .before .before .before .before .before .before .read .ensures) (ap asField (c .before .before .before .before .before .f .given .1)))
+    (measured (c .before .before .before .before .before))
     (verdict-refused location-demand-beside (c .before .before .before .from-bitbuf .ensures) (c .before .enum-told3 .given .1))))
 
 returns-4 : tie.Need-returns-4
@@ -96,7 +106,7 @@ unfolding word locationDemandSlot contentOf
 returns-4 c =
     answer locationDemandSlotAnswer
     (row-read ofLocationDemand locationDemand isLocationDemand (λ e. e .locationDemand) refl (there (c .before .before .before .before .before .before .before .before))
-    (by (c .before .before .before .before .before .before .before .before .read .ensures) (ap asField (c .before .before .before .before .before .before .f .given .1)))
+    (measured (c .before .before .before .before .before .before))
     (local-tail (demand-laws .local _)) (verdict-to location-demand-beside (c .before .before .before .before .from-bitbuf .ensures) (c .before .before .v .given .1)))
 
 no-location-demand-requires-4 : tie.Need-no-location-demand-requires-4
@@ -107,7 +117,7 @@ unfolding locationDemandSlot
 returns-5 c =
     rw (c .no-location-demand4 .ensures)
     (answer locationDemandSlotAnswer (slot-absent identifierOf content (row (c .before .before .before .before .before .before .before .args .identifier) ofLocationDemand) _
-    (by (c .before .before .before .before .before .peek-type34-mbit-and-id .ensures) (ap asOptionalU8 (c .before .before .before .l .given .1)))
+    (looked (c .before .before .before))
     (c .before .if1 .came) (λ w. (w .0 .taken, w .2 .left)) (λ w. w .left) done))
 
 pub read-location-demand-slot-spec : {M : Type 1} → statement M

@@ -15,12 +15,16 @@ use Rattle.bits.specs.PlacedTimes.{alike}
 use Rattle.elements.specs.Generics.{type3, type4}
 use Rattle.elements.specs.Kinds.{absentType3, absentType4, isType3, isType4, contentOf, identifierOf, content}
 use Rattle.elements.specs.Rows.{sized, fromType3, fromType4, genericType3At, genericType4At, isType4Row, genericRow, genericIn, genericSlot, noGeneric}
-use Rattle.elements.specs.Answers.{asOptionalU8, genericAnswer}
+use Rattle.elements.specs.Answers.{opening, asOptionalU8, genericAnswer}
 use Rattle.elements.specs.Verdicts.{answer}
 use Rattle.elements.specs.PlacedTable.{sized-made, slot-outside, slot-ends, slot-other, slot-there}
 use Rattle.elements.specs.declared.typed_pdu_fields.Row.{Row}
 use Rattle.elements.proofs.typed_pdu_fields.read_generic_slot.Statement.{statement}
 use Rattle.elements.proofs.typed_pdu_fields.read_generic_slot.Tie as tie
+
+-- the look at what stands here
+looked : (c : tie.After-l) → let a = c .before .before .before .before .args in Gives opening (a .octets .now) (a .c) (placed (c .l .given .0 .0) (c .l .given .0 .1 .0))
+looked c = by (c .before .before .peek-type34-mbit-and-id .ensures) (ap asOptionalU8 (c .l .given .1))
 
 module _ (r : Row) where
   is-type4 : isType4Row r ≡ true → (bs : Bits) → (sized (content (genericRow r)) >>= λ a. got (genericIn r (some a))) bs ≡ sized genericType4At bs
@@ -63,7 +67,7 @@ returns-2 : tie.Need-returns-2
 unfolding genericSlot
 returns-2 c =
     c .parse-type4-generic .ensures ∙ answer genericAnswer (slot-there identifierOf content (genericRow (c .before .before .before .before .before .before .before .before .before .before .before .before .args .row)) _
-    (by (c .before .before .before .before .before .before .before .before .before .before .peek-type34-mbit-and-id .ensures) (ap asOptionalU8 (c .before .before .before .before .before .before .before .before .l .given .1))) (c .before .before .before .before .before .before .if1 .taken) (c .before .before .before .if2 .taken)
+    (looked (c .before .before .before .before .before .before .before .before)) (c .before .before .before .before .before .before .if1 .taken) (c .before .before .before .if2 .taken)
     (alike (sized genericType4At) (is-type4 (c .before .before .before .before .before .before .before .before .before .before .before .before .args .row) (eq-eqb _ _ (c .before .if3 .taken)) _) (by refl refl)))
 
 parse-type3-generic-requires : tie.Need-parse-type3-generic-requires
@@ -73,20 +77,20 @@ returns-3 : tie.Need-returns-3
 unfolding genericSlot
 returns-3 c =
     c .parse-type3-generic .ensures ∙ answer genericAnswer (slot-there identifierOf content (genericRow (c .before .before .before .before .before .before .before .before .before .before .before .before .args .row)) _
-    (by (c .before .before .before .before .before .before .before .before .before .before .peek-type34-mbit-and-id .ensures) (ap asOptionalU8 (c .before .before .before .before .before .before .before .before .l .given .1))) (c .before .before .before .before .before .before .if1 .taken) (c .before .before .before .if2 .taken)
+    (looked (c .before .before .before .before .before .before .before .before)) (c .before .before .before .before .before .before .if1 .taken) (c .before .before .before .if2 .taken)
     (alike (sized genericType3At) (is-type3 (c .before .before .before .before .before .before .before .before .before .before .before .before .args .row) (ne-eqb _ _ (c .before .if3 .left)) _) (by refl refl)))
 
 returns-4 : tie.Need-returns-4
 unfolding genericSlot
 returns-4 c =
     answer genericAnswer (slot-other identifierOf content (genericRow (c .before .before .before .before .before .before .before .before .before .args .row)) _
-    (by (c .before .before .before .before .before .before .before .peek-type34-mbit-and-id .ensures) (ap asOptionalU8 (c .before .before .before .before .before .l .given .1))) (c .before .before .before .if1 .taken) (c .if2 .left) (absent (c .before .before .before .before .before .before .before .before .before .args .row)))
+    (looked (c .before .before .before .before .before)) (c .before .before .before .if1 .taken) (c .if2 .left) (absent (c .before .before .before .before .before .before .before .before .before .args .row)))
 
 returns-5 : tie.Need-returns-5
 unfolding genericSlot
 returns-5 c =
     answer genericAnswer (slot-ends identifierOf content (genericRow (c .before .before .before .before .before .before .args .row)) _
-    (by (c .before .before .before .before .peek-type34-mbit-and-id .ensures) (ap asOptionalU8 (c .before .before .l .given .1))) (c .if1 .left) (absent (c .before .before .before .before .before .before .args .row)))
+    (looked (c .before .before)) (c .if1 .left) (absent (c .before .before .before .before .before .before .args .row)))
 
 pub read-generic-slot-spec : {M : Type 1} → statement M
 read-generic-slot-spec =

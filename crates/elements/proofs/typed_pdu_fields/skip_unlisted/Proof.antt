@@ -9,14 +9,14 @@ use borrow.Author.Tests.{not-true, not-false}
 use lib.ListN.{length}
 use Rattle.bits.specs.Reader.{word}
 use Rattle.bits.specs.ReaderLaws.{local·rules}
-use Rattle.bits.specs.Placed.{window, at, asField, asMoved}
-use Rattle.bits.specs.PlacedLaws.{by, by-refusal, step, stop}
+use Rattle.bits.specs.Placed.{placed, window, at, asField, asMoved}
+use Rattle.bits.specs.PlacedLaws.{Gives, by, by-refusal, step, stop}
 use Rattle.bits.specs.PlacedTimes.{alike}
 use Rattle.elements.specs.Table.{isListed}
 use Rattle.elements.specs.Kinds.{identifierOf}
 use Rattle.elements.specs.Rows.{rowsOf, skipping}
-use Rattle.elements.specs.Answers.{asOptionalU8}
-use Rattle.elements.specs.PlacedTable.{body-tail, body-on, tally, tally-start, tally-outside, tally-ends, tally-listed, tally-on}
+use Rattle.elements.specs.Answers.{opening, asOptionalU8}
+use Rattle.elements.specs.PlacedTable.{body, body-tail, body-on, tally, tally-start, tally-outside, tally-ends, tally-listed, tally-on}
 use Rattle.elements.proofs.typed_pdu_fields.skip_unlisted.Statement.{statement}
 use Rattle.elements.proofs.typed_pdu_fields.skip_unlisted.Tie as tie
 
@@ -27,6 +27,16 @@ Inv-loop octets table place₀ n₀ place n =
 
 abbrev μ-loop : tie.MeasureT-loop
 μ-loop octets table place₀ n₀ place n = length (window octets place)
+
+-- the look at what stands here
+looked : (c : tie.After-l Inv-loop μ-loop) → let a = c .before .before .before .before .before .args in Gives opening (a .octets .now) (c .before .before .before .loop .place) (placed (c .l .given .0 .0) (c .l .given .0 .1 .0))
+looked c = by (c .before .before .peek-type34-mbit-and-id .ensures) (ap asOptionalU8 (c .l .given .1))
+
+-- an element's content is passed
+passed : (c : tie.After-p Inv-loop μ-loop) → Gives body (c .before .before .before .before .before .before .before .before .before .before .before .before .before .before .before .before .before .args .octets .now) (c .before .before .before .before .before .before .before .before .before .before .before .before .l .given .0 .1 .0) (placed tt (c .p .given .0 .0))
+unfolding word
+passed c =
+    step _ (by (c .before .before .before .before .before .before .read .ensures) (ap asField (c .before .before .before .before .f .given .1))) (search local·rules) (by (c .before .before .pass .ensures) (ap asMoved (c .p .given .1)))
 
 loop-holds : tie.Need-loop-holds Inv-loop μ-loop
 loop-holds c =
@@ -50,14 +60,14 @@ returns c =
 
 returns-2 : tie.Need-returns-2 Inv-loop μ-loop
 returns-2 c =
-    sym (c .before .before .before .before .before .before .loop .inv .1 ∙ tally-ends _ _ (by (c .before .before .before .before .before .peek-type34-mbit-and-id .ensures) (ap asOptionalU8 (c .before .before .before .l .given .1))) (not-true _ (c .if1 .taken)) .eq)
+    sym (c .before .before .before .before .before .before .loop .inv .1 ∙ tally-ends _ _ (looked (c .before .before .before)) (not-true _ (c .if1 .taken)) .eq)
 
 is-listed-requires : tie.Need-is-listed-requires Inv-loop μ-loop
 is-listed-requires c κs = search needs
 
 returns-3 : tie.Need-returns-3 Inv-loop μ-loop
 returns-3 c =
-    sym (c .before .before .before .before .before .before .before .before .loop .inv .1 ∙ tally-listed _ _ (by (c .before .before .before .before .before .before .before .peek-type34-mbit-and-id .ensures) (ap asOptionalU8 (c .before .before .before .before .before .l .given .1))) (not-false _ (c .before .before .if1 .left))
+    sym (c .before .before .before .before .before .before .before .before .loop .inv .1 ∙ tally-listed _ _ (looked (c .before .before .before .before .before)) (not-false _ (c .before .before .if1 .left))
     (sym (c .before .is-listed .ensures) ∙ c .if2 .taken) .eq)
 
 read-requires : tie.Need-read-requires Inv-loop μ-loop
@@ -75,7 +85,7 @@ refusal-requires-2 c κs = search needs
 returns-4 : tie.Need-returns-4 Inv-loop μ-loop
 unfolding word
 returns-4 c =
-    sym (c .before .before .before .before .before .before .before .before .before .before .before .before .loop .inv .1 ∙ tally-on _ _ (by (c .before .before .before .before .before .before .before .before .before .before .before .peek-type34-mbit-and-id .ensures) (ap asOptionalU8 (c .before .before .before .before .before .before .before .before .before .l .given .1))) (not-false _ (c .before .before .before .before .before .before .if1 .left))
+    sym (c .before .before .before .before .before .before .before .before .before .before .before .before .loop .inv .1 ∙ tally-on _ _ (looked (c .before .before .before .before .before .before .before .before .before)) (not-false _ (c .before .before .before .before .before .before .if1 .left))
     (sym (c .before .before .before .before .before .is-listed .ensures) ∙ c .before .before .before .before .if2 .left)
     (stop _ (stop _ (by-refusal (c .before .before .before .read .ensures) (ap asField (c .before .enum-told2 .given .1)) (c .refusal2 .ensures)))) .eq)
 
@@ -94,7 +104,7 @@ refusal-requires-3 c κs = search needs
 returns-5 : tie.Need-returns-5 Inv-loop μ-loop
 unfolding word
 returns-5 c =
-    sym (c .before .before .before .before .before .before .before .before .before .before .before .before .before .before .before .before .loop .inv .1 ∙ tally-on _ _ (by (c .before .before .before .before .before .before .before .before .before .before .before .before .before .before .before .peek-type34-mbit-and-id .ensures) (ap asOptionalU8 (c .before .before .before .before .before .before .before .before .before .before .before .before .before .l .given .1))) (not-false _ (c .before .before .before .before .before .before .before .before .before .before .if1 .left))
+    sym (c .before .before .before .before .before .before .before .before .before .before .before .before .before .before .before .before .loop .inv .1 ∙ tally-on _ _ (looked (c .before .before .before .before .before .before .before .before .before .before .before .before .before)) (not-false _ (c .before .before .before .before .before .before .before .before .before .before .if1 .left))
     (sym (c .before .before .before .before .before .before .before .before .before .is-listed .ensures) ∙ c .before .before .before .before .before .before .before .before .if2 .left)
     (stop _ (step _ (by (c .before .before .before .before .before .before .before .read .ensures) (ap asField (c .before .before .before .before .before .f .given .1))) (search local·rules)
     (by-refusal (c .before .before .before .pass .ensures) (ap asMoved (c .before .enum-told3 .given .1)) (c .refusal3 .ensures)))) .eq)
@@ -102,21 +112,21 @@ returns-5 c =
 add-n : tie.Need-add-n Inv-loop μ-loop
 unfolding word
 add-n c =
-    let m = body-on (by (c .before .before .before .before .before .before .before .before .before .before .before .before .before .before .before .peek-type34-mbit-and-id .ensures) (ap asOptionalU8 (c .before .before .before .before .before .before .before .before .before .before .before .before .before .l .given .1)))
-    (step _ (by (c .before .before .before .before .before .before .before .read .ensures) (ap asField (c .before .before .before .before .before .f .given .1))) (search local·rules) (by (c .before .before .before .pass .ensures) (ap asMoved (c .before .p .given .1)))) .0 in
+    let m = body-on (looked (c .before .before .before .before .before .before .before .before .before .before .before .before .before))
+    (passed (c .before)) .0 in
     omega (arith, c .known-told3 .given)
 
 loop-less : tie.Need-loop-less Inv-loop μ-loop
 unfolding word
 loop-less c =
-    body-on (by (c .before .before .before .before .before .before .before .before .before .before .before .before .before .before .before .peek-type34-mbit-and-id .ensures) (ap asOptionalU8 (c .before .before .before .before .before .before .before .before .before .before .before .before .before .l .given .1)))
-    (step _ (by (c .before .before .before .before .before .before .before .read .ensures) (ap asField (c .before .before .before .before .before .f .given .1))) (search local·rules) (by (c .before .before .before .pass .ensures) (ap asMoved (c .before .p .given .1)))) .1
+    body-on (looked (c .before .before .before .before .before .before .before .before .before .before .before .before .before))
+    (passed (c .before)) .1
 
 loop-again : tie.Need-loop-again Inv-loop μ-loop
 unfolding word
 loop-again c =
-    let e = by (c .before .before .before .before .before .before .before .before .before .before .before .before .before .before .before .peek-type34-mbit-and-id .ensures) (ap asOptionalU8 (c .before .before .before .before .before .before .before .before .before .before .before .before .before .l .given .1)) in
-    let g = step _ (by (c .before .before .before .before .before .before .before .read .ensures) (ap asField (c .before .before .before .before .before .f .given .1))) (search local·rules) (by (c .before .before .before .pass .ensures) (ap asMoved (c .before .p .given .1))) in
+    let e = looked (c .before .before .before .before .before .before .before .before .before .before .before .before .before) in
+    let g = passed (c .before) in
     let m = body-on e g .0 in
     (omega arith, c .before .before .before .before .before .before .before .before .before .before .before .before .before .before .before .before .loop .inv .1 ∙ tally-on _ _ e (not-false _ (c .before .before .before .before .before .before .before .before .before .before .if1 .left)) (sym (c .before .before .before .before .before .before .before .before .before .is-listed .ensures) ∙ c .before .before .before .before .before .before .before .before .if2 .left) (step _ g body-tail (by refl refl)) .eq)
 

@@ -2,6 +2,7 @@
 use native.Mathlib.Omega.{arith}
 use mathlib.Core.Path.{refl}
 use mathlib.Core.Bool.{_&&_}
+use Rattle.elements.specs.Lists.{each}
 use Rattle.exports.specs.Flat.{flatUplink, flatDemand}
 use Rattle.exports.specs.FlatLaws.{_⨟_, length-shown}
 use borrow.Author.Needs.{needs}
@@ -15,12 +16,15 @@ put-class-requires : tie.Need-put-class-requires
 put-class-requires c κs = search needs
 
 put-demand-options-requires : tie.Need-put-demand-options-requires
+unfolding each
 put-demand-options-requires c κs = search needs
 
 put-location-demand-requires : tie.Need-put-location-demand-requires
+unfolding each
 put-location-demand-requires c κs = search needs
 
 put-demand-generics-requires : tie.Need-put-demand-generics-requires
+unfolding each
 put-demand-generics-requires c κs =
     let a = c .before .before .before .before .before .before .before .before .before .before .before .before .before .before .before .before .before .before .before .before .before .before .before .before .before .before .before .before .before .args in
     let l = length-shown flatUplink 46 (λ g. refl) (a .own .«group_identity_location_demand» .present && a .own .«group_identity_location_demand» .value .«group_identity_uplink» .present) ((a .own .«group_identity_location_demand» .value .«group_identity_uplink») .count) ((a .own .«group_identity_location_demand» .value .«group_identity_uplink») .groups) (c .before .before .before .before .before .before .before .before .before .before .before .before .before .before .before .before .before .before .before .before .before .before .before .before .before .before .before .before .before .pre .1) in

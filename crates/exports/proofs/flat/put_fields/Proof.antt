@@ -1,18 +1,17 @@
 -- `exports::flat::put_fields` meets its contract. The loop's invariant: the fields so far are put. Assumes nothing.
-use Prim.Native.Nat.{_+_, _*_, _≤_, _-_}
+use Prim.Native.Nat.{_-_}
 use native.Mathlib.Omega.{arith}
-use mathlib.Core.Path.{_≡_}
-use lib.ListN.{take}
+use mathlib.Core.Path.{refl}
 use lib.Seq.{take-all}
 use borrow.Author.Needs.{needs}
-use Rattle.exports.specs.Flat.{flatEach, flatField}
-use Rattle.exports.specs.FlatLaws.{Put, none-put, one-put, all-put}
+use Rattle.exports.specs.Flat.{flatField}
+use Rattle.exports.specs.FlatLaws.{Shown, shown-none, shown-more}
 use Rattle.exports.proofs.flat.put_fields.Statement.{statement}
 use Rattle.exports.proofs.flat.put_fields.Tie as tie
 
 abbrev Inv-loop : tie.InvT-loop
 Inv-loop flat₀ at present values place₀ i₀ flat place i =
-    (i ≤ 22) × (place ≡ at + 9 * i) × Put flat₀ at (flatEach (flatField present) (take i values)) flat place
+    Shown (flatField present) 9 values 22 flat₀ at flat place i
 
 abbrev μ-loop : tie.MeasureT-loop
 μ-loop flat₀ at present values place₀ i₀ flat place i = 22 - i
@@ -20,7 +19,7 @@ abbrev μ-loop : tie.MeasureT-loop
 loop-holds : tie.Need-loop-holds Inv-loop μ-loop
 loop-holds c =
     let a = c .before .args in
-    (omega arith, omega arith, none-put (flatField (a .present)) (a .flat .now) (a .at) (a .t4))
+    shown-none (flatField (a .present)) 9 (a .t4) _ _ _
 
 array-read-put-field : tie.Need-array-read-put-field Inv-loop μ-loop
 array-read-put-field c = search needs
@@ -42,7 +41,7 @@ loop-again c =
     let l = c .before .before .before .before .before .loop in
     let a = c .before .before .before .before .before .before .before .args in
     let p = c .before .before .put-field .ensures in
-    (omega arith, omega arith, one-put (flatField (a .present)) (a .t4) (l .i) _ (omega arith) (l .inv .2) p)
+    shown-more (flatField (a .present)) 9 (λ g. refl) {gs = a .t4} (l .inv) (c .before .before .before .before .loop-test .taken) (omega arith) _ p
 
 same-length : tie.Need-same-length Inv-loop μ-loop
 same-length c = search needs
@@ -51,7 +50,7 @@ returns : tie.Need-returns Inv-loop μ-loop
 returns c =
     let l = c .before .loop in
     let a = c .before .before .before .args in
-    all-put (flatField (a .present)) (a .t4) (a .t4) (l .i) (take-all (l .i) (a .t4) (omega arith)) (l .inv .2)
+    rw (← take-all (l .i) (a .t4) (omega arith)) (l .inv .things)
 
 pub put-fields-spec : {M : Type 1} → statement M
 put-fields-spec =

@@ -1,18 +1,17 @@
 -- `exports::flat::put_uplink_groups` meets its contract. The loop's invariant: the groups so far are put. Assumes nothing.
-use Prim.Native.Nat.{_+_, _*_, _≤_, _-_, min}
+use Prim.Native.Nat.{_-_, min}
 use native.Mathlib.Omega.{arith}
-use mathlib.Core.Path.{_≡_}
-use lib.ListN.{take}
+use mathlib.Core.Path.{_≡_, refl}
 use borrow.Author.Needs.{needs}
 use Rattle.elements.specs.EachLaws.{take-most}
-use Rattle.exports.specs.Flat.{flatEach, flatUplink}
-use Rattle.exports.specs.FlatLaws.{Put, none-put, one-put, all-put}
+use Rattle.exports.specs.Flat.{flatUplink}
+use Rattle.exports.specs.FlatLaws.{Shown, shown-none, shown-more}
 use Rattle.exports.proofs.flat.put_uplink_groups.Statement.{statement}
 use Rattle.exports.proofs.flat.put_uplink_groups.Tie as tie
 
 abbrev Inv-loop : tie.InvT-loop
 Inv-loop flat₀ at count groups n place₀ i₀ flat place i =
-    (i ≤ n) × (place ≡ at + 46 * i) × Put flat₀ at (flatEach flatUplink (take i groups)) flat place
+    Shown flatUplink 46 groups n flat₀ at flat place i
 
 abbrev μ-loop : tie.MeasureT-loop
 μ-loop flat₀ at count groups n place₀ i₀ flat place i = n - i
@@ -23,7 +22,7 @@ at-most-63-requires c κs = search needs
 loop-holds : tie.Need-loop-holds Inv-loop μ-loop
 loop-holds c =
     let a = c .before .before .args in
-    (omega arith, omega arith, none-put flatUplink (a .flat .now) (a .at) (a .t4))
+    shown-none flatUplink 46 (a .t4) _ _ _
 
 mul-g : tie.Need-mul-g Inv-loop μ-loop
 mul-g c = search needs
@@ -45,7 +44,7 @@ loop-again c =
     let l = c .before .before .before .before .before .before .loop in
     let a = c .before .before .before .before .before .before .before .before .before .args in
     let p = c .before .before .put-uplink .ensures in
-    (omega arith, omega arith, one-put flatUplink (a .t4) (l .i) _ (omega arith) (l .inv .2) p)
+    shown-more flatUplink 46 (λ g. refl) {gs = a .t4} (l .inv) (c .before .before .before .before .before .loop-test .taken) (omega arith) _ p
 
 same-length : tie.Need-same-length Inv-loop μ-loop
 same-length c = search needs
@@ -55,7 +54,7 @@ returns c =
     let l = c .before .loop in
     let a = c .before .before .before .before .args in
     let all : l .i ≡ min (a .count) 63 = omega (arith, c .before .before .at-most-63 .ensures) in
-    all-put flatUplink (a .t4) (take (a .count) (a .t4)) (l .i) (rw all (take-most (a .count) 63 (a .t4) (omega arith))) (l .inv .2)
+    rw (← take-most (a .count) 63 (a .t4) (omega arith), ← all) (l .inv .things)
 
 pub put-uplink-groups-spec : {M : Type 1} → statement M
 put-uplink-groups-spec =

@@ -1,21 +1,23 @@
 -- `messages::u_location_update_demand::read_elements` meets its contract: no slot stands before its own one, and a part of the table behind it. No
 -- count overflows: each element skipped is a bit at least. Assumes nothing.
 use mathlib.Core.Path.{_≡_, refl, ap, _∙_}
-use mathlib.Core.Bool.{false}
 use native.Mathlib.Omega.{arith}
+use mathlib.Core.Bool.{true, false}
 use mathlib.Core.Option.{Option}
 use mathlib.Core.List.{List, [], _∷_, _++_}
 use lib.Seq.{sets}
-use Rattle.bits.specs.PlacedLaws.{by, by-refusal}
+use Rattle.bits.specs.Placed.{placed}
+use Rattle.bits.specs.PlacedLaws.{Gives, by, by-refusal}
 use Rattle.elements.specs.Answers.{asSkipped}
 use Rattle.elements.specs.Kinds.{Element, row, ofLocationDemand, heldElement}
-use Rattle.elements.specs.Rows.{noGenerics}
+use Rattle.elements.specs.Rows.{part, noGenerics}
 use Rattle.elements.specs.GroupAnswers.{locationDemandSlot}
 use Rattle.elements.specs.Verdicts.{answer, numbered, verdict-to, verdict-refused, slots-beside, location-demand-slot-beside}
 use Rattle.elements.specs.Parts.{Each, no-more, one-more, Parts, empty-part, empty-part-refused, no-front, no-slot, no-back, all-read, all-most}
 use Rattle.elements.specs.declared.typed_pdu_fields.Generic.{Generic}
 use Rattle.elements.specs.declared.typed_pdu_fields.Row.{Row}
 use Rattle.elements.specs.declared.group_identity_location_demand.OptionalLocationDemand.{OptionalLocationDemand}
+use Rattle.messages.specs.Demand.{demandTable}
 use Rattle.messages.specs.Calls.{ofDemand, demandFormat}
 use Rattle.messages.specs.MessageAnswers.{demandFrom, demandAnswer}
 use Rattle.messages.specs.declared.u_location_update_demand.DemandHead.{DemandHead}
@@ -47,6 +49,19 @@ parts h = record {
   held = λ l gs. ofDemand (demandFrom h l gs);
   same = same-record h;
 }
+
+-- each part, where it is read
+
+front-read : (c : tie.After-s) → let a = c .before .before .before .before .args in
+    Gives (part demandTable front false (a .skipping) noGenerics 0) (a .octets .now) (a .c) (placed (record { skipped = c .s .given .0 .0; generics = noGenerics }) (c .s .given .0 .1 .0))
+front-read c = empty-part _ _ false noGenerics 0 (by (c .before .before .skip-if .ensures) (ap asSkipped (c .s .given .1)))
+
+slot-read : (c : tie.After-w) → Gives (locationDemandSlot 3) (c .before .before .before .before .before .before .before .before .args .octets .now) (c .before .before .before .before .s .given .0 .1 .0) (placed (c .before .before .read-location-demand-slot .result .location) (c .w .given .0 .0))
+slot-read c = verdict-to location-demand-slot-beside (c .before .before .read-location-demand-slot .ensures) (c .w .given .1)
+
+back-read : (c : tie.After-x) → let a = c .before .before .before .before .before .before .before .before .before .before .before .before .args in
+    Gives (part demandTable back true (a .skipping) noGenerics 1) (a .octets .now) (c .before .before .before .before .w .given .0 .0) (placed (c .before .before .scan-part .result .slots) (c .x .given .0 .0))
+back-read c = verdict-to slots-beside (c .before .before .scan-part .ensures) (c .x .given .1)
 
 skip-if-requires : tie.Need-skip-if-requires
 skip-if-requires c κs = search needs
@@ -87,7 +102,7 @@ returns-2 : tie.Need-returns-2
 unfolding locationDemandSlot
 returns-2 c =
     let a = c .before .before .before .before .before .before .before .before .before .before .args in
-    c .refused2 .ensures ∙ answer demandAnswer (no-slot _ (a .skipping) (parts (a .head)) (empty-part _ _ false noGenerics 0 (by (c .before .before .before .before .before .before .before .before .skip-if .ensures) (ap asSkipped (c .before .before .before .before .before .before .s .given .1))))
+    c .refused2 .ensures ∙ answer demandAnswer (no-slot _ (a .skipping) (parts (a .head)) (front-read (c .before .before .before .before .before .before))
     (verdict-refused location-demand-slot-beside (c .before .before .before .before .read-location-demand-slot .ensures) (numbered (c .before .before .enum-told2 .given .1) (c .before .refusal2 .ensures))))
 
 scan-part-requires : tie.Need-scan-part-requires
@@ -109,15 +124,15 @@ returns-3 : tie.Need-returns-3
 unfolding locationDemandSlot
 returns-3 c =
     let a = c .before .before .before .before .before .before .before .before .before .before .before .before .before .before .args in
-    c .refused3 .ensures ∙ answer demandAnswer (no-back _ (a .skipping) (parts (a .head)) (empty-part _ _ false noGenerics 0 (by (c .before .before .before .before .before .before .before .before .before .before .before .before .skip-if .ensures) (ap asSkipped (c .before .before .before .before .before .before .before .before .before .before .s .given .1))))
-    (verdict-to location-demand-slot-beside (c .before .before .before .before .before .before .before .before .read-location-demand-slot .ensures) (c .before .before .before .before .before .before .w .given .1)) (verdict-refused slots-beside (c .before .before .before .before .scan-part .ensures) (numbered (c .before .before .enum-told3 .given .1) (c .before .refusal3 .ensures))))
+    c .refused3 .ensures ∙ answer demandAnswer (no-back _ (a .skipping) (parts (a .head)) (front-read (c .before .before .before .before .before .before .before .before .before .before))
+    (slot-read (c .before .before .before .before .before .before)) (verdict-refused slots-beside (c .before .before .before .before .scan-part .ensures) (numbered (c .before .before .enum-told3 .given .1) (c .before .refusal3 .ensures))))
 
 add-t32 : tie.Need-add-t32
 unfolding locationDemandSlot
 add-t32 c =
     let a = c .before .before .before .before .before .before .before .before .before .before .before .before .before .before .before .before .before .args in
-    let most = all-most _ (a .skipping) (parts (a .head)) (empty-part _ _ false noGenerics 0 (by (c .before .before .before .before .before .before .before .before .before .before .before .before .before .before .before .skip-if .ensures) (ap asSkipped (c .before .before .before .before .before .before .before .before .before .before .before .before .before .s .given .1))))
-    (verdict-to location-demand-slot-beside (c .before .before .before .before .before .before .before .before .before .before .before .read-location-demand-slot .ensures) (c .before .before .before .before .before .before .before .before .before .w .given .1)) (verdict-to slots-beside (c .before .before .before .before .before .before .before .scan-part .ensures) (c .before .before .before .before .before .x .given .1)) in
+    let most = all-most _ (a .skipping) (parts (a .head)) (front-read (c .before .before .before .before .before .before .before .before .before .before .before .before .before))
+    (slot-read (c .before .before .before .before .before .before .before .before .before)) (back-read (c .before .before .before .before .before)) in
     omega (arith, c .before .before .before .before .known-told3 .given)
 
 record-of-requires : tie.Need-record-of-requires
@@ -127,8 +142,8 @@ returns-4 : tie.Need-returns-4
 unfolding locationDemandSlot
 returns-4 c =
     let a = c .before .before .before .before .before .before .before .before .before .before .before .before .before .before .before .before .before .before .args in
-    rw (c .record-of .ensures) (answer demandAnswer (all-read _ (a .skipping) (parts (a .head)) (empty-part _ _ false noGenerics 0 (by (c .before .before .before .before .before .before .before .before .before .before .before .before .before .before .before .before .skip-if .ensures) (ap asSkipped (c .before .before .before .before .before .before .before .before .before .before .before .before .before .before .s .given .1))))
-    (verdict-to location-demand-slot-beside (c .before .before .before .before .before .before .before .before .before .before .before .before .read-location-demand-slot .ensures) (c .before .before .before .before .before .before .before .before .before .before .w .given .1)) (verdict-to slots-beside (c .before .before .before .before .before .before .before .before .scan-part .ensures) (c .before .before .before .before .before .before .x .given .1))))
+    rw (c .record-of .ensures) (answer demandAnswer (all-read _ (a .skipping) (parts (a .head)) (front-read (c .before .before .before .before .before .before .before .before .before .before .before .before .before .before))
+    (slot-read (c .before .before .before .before .before .before .before .before .before .before)) (back-read (c .before .before .before .before .before .before))))
 
 pub read-elements-spec : {M : Type 1} → statement M
 read-elements-spec =

@@ -1,79 +1,32 @@
 -- `bits::bitbuffer::Cursor::write` meets its contract. Assumes nothing.
-use Prim.Native.Nat.{_^_}
-use native.Mathlib.Omega.{arith}
-use mathlib.Core.Path.{_≡_, sym, ap, _∙_}
-use borrow.Author.Tests.{ltb-false}
+use mathlib.Core.Path.{ap, _∙_}
+use borrow.Author.Tests.{ne-eqb}
 use Rattle.bits.specs.Placed.{placed}
-use Rattle.bits.specs.Written.{Written}
-use Rattle.bits.specs.WrittenLaws.{field-written, field-no-room, field-wide, field-large}
-use Rattle.bits.proofs.Held.{small, held, not-held}
 use borrow.Author.Needs.{needs}
 use Rattle.bits.proofs.bitbuffer.Cursor.write.Statement.{statement}
 use Rattle.bits.proofs.bitbuffer.Cursor.write.Tie as tie
 
-answers : {x y : Written} → y ≡ x → (x .answer ≡ y .answer) × (x .octets ≡ y .octets)
-answers e = (sym (ap (λ (z : Written). z .answer) e), sym (ap (λ (z : Written). z .octets) e))
-
-returns : tie.Need-returns
-returns c =
-    let a = c .before .before .args in
-    answers (field-wide (a .width) (a .value) (a .octets .now) (a .self) (omega arith))
-
-within-requires : tie.Need-within-requires
-within-requires c κs = search needs
-
-holds-requires : tie.Need-holds-requires
-holds-requires c κs = search needs
-
-put-requires : tie.Need-put-requires
-put-requires c κs =
-    let a = c .before .before .before .before .before .before .before .args in
-    let r = held (a .octets .now) (a .self) (a .width) (c .before .before .holds .ensures) (c .before .if3 .taken) in
-    let h = small (a .value) (a .width) (c .before .before .before .before .within .ensures) (c .before .before .before .if2 .taken) in
-    omega arith
+store-requires : tie.Need-store-requires
+store-requires c κs = search needs
 
 past-requires : tie.Need-past-requires
 past-requires c κs =
-    let p = c .before .before .before .before in
-    let a = p .before .before .before .before .before .before .args in
-    let r = held (a .octets .now) (a .self) (a .width) (p .before .holds .ensures) (p .if3 .taken) in
-    omega arith
+    c .before .before .before .store .ensures .1 .1 (c .if1 .taken)
 
 same-length : tie.Need-same-length
 same-length c = search needs
 
+returns : tie.Need-returns
+returns c =
+    (ap (placed tt) (c .past .ensures) ∙ rw (c .before .if1 .taken) at (c .before .before .before .before .store .ensures .0), c .before .before .before .before .store .ensures .1 .0)
+
+same-length-2 : tie.Need-same-length-2
+same-length-2 c = search needs
+
 returns-2 : tie.Need-returns-2
 returns-2 c =
-    let p = c .before .before .before .before .before in
-    let a = p .before .before .before .before .before .before .args in
-    let r = held (a .octets .now) (a .self) (a .width) (p .before .holds .ensures) (p .if3 .taken) in
-    let h = small (a .value) (a .width) (p .before .before .before .within .ensures) (p .before .before .if2 .taken) in
-    let w = answers (field-written (a .width) (a .value) (a .octets .now) (a .self) (omega arith) h r) in
-    (ap (placed tt) (c .past .ensures) ∙ w .0, c .before .before .before .put .ensures ∙ w .1)
-
-returns-3 : tie.Need-returns-3
-returns-3 c =
-    let a = c .before .before .before .before .before .before .args in
-    let r = not-held (a .octets .now) (a .self) (a .width) (c .before .holds .ensures) (c .if3 .left) in
-    let h = small (a .value) (a .width) (c .before .before .before .within .ensures) (c .before .before .if2 .taken) in
-    answers (field-no-room (a .width) (a .value) (a .octets .now) (a .self) (omega arith) h r)
-
-returns-4 : tie.Need-returns-4
-returns-4 c =
-    let a = c .before .before .before .before .args in
-    let h = ltb-false (a .value) (2 ^ a .width) (sym (c .before .within .ensures) ∙ c .if2 .left) in
-    answers (field-large (a .width) (a .value) (a .octets .now) (a .self) h)
+    (rw (ne-eqb _ _ (c .if1 .left)) at (c .before .before .before .store .ensures .0), c .before .before .before .store .ensures .1 .0)
 
 pub write-spec : {M : Type 1} → statement M
 write-spec =
-    tie.close
-    (tie.spec
-    returns
-    within-requires
-    holds-requires
-    put-requires
-    past-requires
-    same-length
-    returns-2
-    returns-3
-    returns-4)
+    tie.close (tie.spec store-requires past-requires same-length returns same-length-2 returns-2)

@@ -1,8 +1,8 @@
 -- `bits::bitbuffer::Digits::then` meets its contract. Assumes nothing.
-use Prim.Native.Nat.{ℕ, _+_, _*_, _%_, _^_}
+use Prim.Native.Nat.{_%_, _^_}
 use native.Mathlib.Nat.{mod-lt}
 use native.Mathlib.Omega.{arith}
-use mathlib.Core.Path.{_≡_, sym, _∙_}
+use mathlib.Core.Path.{sym}
 use lib.Pow.{pow-pos}
 use Rattle.bits.specs.DigitsLaws.{digits-two, digits-two-many}
 use Rattle.bits.proofs.Shifts.{shift-or}

@@ -1,9 +1,10 @@
 -- `messages::d_attach_detach_group_identity::DAttachDetachGroupIdentity::from_bitbuf` meets its contract: the head, then the elements or none.
 use mathlib.Core.Path.{_≡_, refl, ap, _∙_}
 use Rattle.bits.specs.ReaderLaws.{local-tail}
-use Rattle.bits.specs.Placed.{asMoved}
-use Rattle.bits.specs.PlacedLaws.{by, by-refusal}
+use Rattle.bits.specs.Placed.{placed, asMoved}
+use Rattle.bits.specs.PlacedLaws.{Gives, by, by-refusal}
 use Rattle.elements.specs.Verdicts.{answer}
+use Rattle.messages.specs.AttachDetach.{attachDetachHead}
 use Rattle.messages.specs.Calls.{attachDetachFormat}
 use Rattle.messages.specs.AttachDetachLaws.{attach-detach-head-local}
 use Rattle.messages.specs.PlacedMessages.{no-head, elements-follow, none-follow}
@@ -13,6 +14,10 @@ use Rattle.messages.proofs.d_attach_detach_group_identity.DAttachDetach
   statement,
 }
 use Rattle.messages.proofs.d_attach_detach_group_identity.DAttachDetachGroupIdentity.from_bitbuf.Tie as tie
+
+-- the head
+headed : (c : tie.After-h) → let a = c .before .before .before .before .args in Gives attachDetachHead (a .octets .now) (a .c) (placed (c .h .given .0 .0) (c .h .given .0 .1 .0))
+headed c = by (c .before .before .read-head .ensures) (ap asAttachDetachHead (c .h .given .1))
 
 read-head-requires : tie.Need-read-head-requires
 read-head-requires c κs = search needs
@@ -47,7 +52,7 @@ read-elements-requires c κs = search needs
 
 returns-2 : tie.Need-returns-2
 returns-2 c =
-    c .read-elements .ensures ∙ answer attachDetachAnswer (elements-follow attachDetachFormat (c .before .before .before .before .before .before .before .before .before .before .args .skipping) (by (c .before .before .before .before .before .before .before .before .read-head .ensures) (ap asAttachDetachHead (c .before .before .before .before .before .before .h .given .1))) (local-tail attach-detach-head-local) (by (c .before .before .before .read-empty-table .ensures) (ap asMoved (c .before .enum-told2 .given .1))) (by refl refl))
+    c .read-elements .ensures ∙ answer attachDetachAnswer (elements-follow attachDetachFormat (c .before .before .before .before .before .before .before .before .before .before .args .skipping) (headed (c .before .before .before .before .before .before)) (local-tail attach-detach-head-local) (by (c .before .before .before .read-empty-table .ensures) (ap asMoved (c .before .enum-told2 .given .1))) (by refl refl))
 
 no-downlinks-requires : tie.Need-no-downlinks-requires
 no-downlinks-requires c κs = search needs
@@ -57,7 +62,7 @@ record-of-requires c κs = search needs
 
 returns-3 : tie.Need-returns-3
 returns-3 c =
-    rw (c .record-of .ensures, c .before .no-downlinks .ensures) (answer attachDetachAnswer (none-follow attachDetachFormat (c .before .before .before .before .before .before .before .before .before .before .before .before .args .skipping) (by (c .before .before .before .before .before .before .before .before .before .before .read-head .ensures) (ap asAttachDetachHead (c .before .before .before .before .before .before .before .before .h .given .1))) (local-tail attach-detach-head-local) (by (c .before .before .before .before .before .read-empty-table .ensures) (ap asMoved (c .before .before .before .e .given .1)))))
+    rw (c .record-of .ensures, c .before .no-downlinks .ensures) (answer attachDetachAnswer (none-follow attachDetachFormat (c .before .before .before .before .before .before .before .before .before .before .before .before .args .skipping) (headed (c .before .before .before .before .before .before .before .before)) (local-tail attach-detach-head-local) (by (c .before .before .before .before .before .read-empty-table .ensures) (ap asMoved (c .before .before .before .e .given .1)))))
 
 pub from-bitbuf-spec : {M : Type 1} → statement M
 from-bitbuf-spec =

@@ -1,0 +1,66 @@
+-- `element_writers::group_identity_downlink::put_nested` meets its contract. Assumes nothing.
+use native.Mathlib.Omega.{arith}
+use Rattle.bits.specs.Written.{bitsIn}
+use Rattle.bits.specs.DigitsLaws.{no-digits, _▹_, behind}
+use Rattle.bits.specs.PutsLaws.{field}
+use Rattle.elements.specs.Lists.{downlinks}
+use Rattle.elements.specs.Locations.{groupIdentityDownlink}
+use Rattle.element_writers.specs.GroupParts.{downlinkParts}
+use Rattle.element_writers.specs.WrittenElements.{flag-fits, closing-fits, nested-there, nested-absent}
+use borrow.Author.Needs.{needs}
+use Rattle.element_writers.proofs.group_identity_downlink.put_nested.Statement.{statement}
+use Rattle.element_writers.proofs.group_identity_downlink.put_nested.Tie as tie
+
+bit-of-requires : tie.Need-bit-of-requires
+bit-of-requires c κs = search needs
+
+then-requires : tie.Need-then-requires
+then-requires c κs = search needs
+
+put-requires : tie.Need-put-requires
+put-requires c κs = search needs
+
+put-list-requires : tie.Need-put-list-requires
+put-list-requires c κs = search needs
+
+then-requires-2 : tie.Need-then-requires-2
+then-requires-2 c κs = search needs
+
+put-requires-2 : tie.Need-put-requires-2
+put-requires-2 c κs = search needs
+
+same-length : tie.Need-same-length
+same-length c = search needs
+
+returns : tie.Need-returns
+returns c =
+    let a = c .before .before .before .before .before .before .before .before .before .before .before .before .before .before .before .before .before .args in
+    let e = rw (c .before .before .before .before .before .before .before .before .before .before .before .before .before .before .bit-of .ensures) at (c .before .before .before .before .before .before .before .before .before .before .before .before .before .then .ensures) in
+    nested-there downlinks downlinkParts groupIdentityDownlink (bitsIn (a .front)) (a .size) (a .list) (c .before .before .before .before .before .before .before .before .before .if1 .taken)
+    (field (behind e) (flag-fits (a .front) _ (omega arith)) (c .before .before .before .before .before .before .before .before .before .before .before .before .put .ensures))
+    (c .before .before .before .before .before .before .before .put-list .ensures) (field (no-digits ▹ c .before .before .before .then2 .ensures) closing-fits (c .before .before .put2 .ensures))
+
+same-length-2 : tie.Need-same-length-2
+same-length-2 c = search needs
+
+returns-2 : tie.Need-returns-2
+returns-2 c =
+    let a = c .before .before .before .before .before .before .before .before .args in
+    let e = rw (c .before .before .before .before .before .bit-of .ensures) at (c .before .before .before .before .then .ensures) in
+    nested-absent downlinks downlinkParts groupIdentityDownlink (bitsIn (a .front)) (a .size) (a .list) (c .if1 .left)
+    (field (behind e) (flag-fits (a .front) _ (omega arith)) (c .before .before .before .put .ensures))
+
+pub put-nested-spec : {M : Type 1} → statement M
+put-nested-spec =
+    tie.close
+    (tie.spec
+    bit-of-requires
+    then-requires
+    put-requires
+    put-list-requires
+    then-requires-2
+    put-requires-2
+    same-length
+    returns
+    same-length-2
+    returns-2)

@@ -1,0 +1,33 @@
+-- `element_writers::group_identity_uplink::ask_uplinks` meets its contract. Assumes nothing.
+use native.Mathlib.Omega.{arith}
+use mathlib.Core.Path.{sym, _∙_}
+use lib.ListN.{length-map}
+use Rattle.elements.specs.Lists.{uplinks}
+use Rattle.element_writers.specs.GroupsAsked.{list-asked, no-list-asked}
+use borrow.Author.Needs.{needs}
+use Rattle.element_writers.proofs.group_identity_uplink.ask_uplinks.Statement.{statement}
+use Rattle.element_writers.proofs.group_identity_uplink.ask_uplinks.Tie as tie
+
+at-most-63-requires : tie.Need-at-most-63-requires
+at-most-63-requires c κs = search needs
+
+ask-groups-requires : tie.Need-ask-groups-requires
+ask-groups-requires c κs = search needs
+
+add-t6 : tie.Need-add-t6
+add-t6 c = search needs
+
+returns : tie.Need-returns
+returns c =
+    let l = c .before .before .before .before .before .before .args .list in (
+      list-asked uplinks l _ (c .before .before .before .before .before .if1 .taken) (c .before .before .ask-groups .ensures .0) (c .before .before .before .at-most-63 .ensures)
+          (sym (length-map (l .groups) _) ∙ c .before .before .before .before .before .before .good .0 .1 .1 .1 .1 .0 .1 .0 .1),
+      omega arith,
+    )
+
+returns-2 : tie.Need-returns-2
+returns-2 c = (no-list-asked uplinks (c .before .args .list) (c .if1 .left), omega arith)
+
+pub ask-uplinks-spec : {M : Type 1} → statement M
+ask-uplinks-spec =
+    tie.close (tie.spec at-most-63-requires ask-groups-requires add-t6 returns returns-2)

@@ -1,0 +1,151 @@
+-- What questions 8, 10 and 11 find of a group and of a list, and how many bits there are; and the laws of asking one group after the other.
+use Prim.Native.Nat.{ℕ, zero, suc, _+_, _<_, min}
+use native.Mathlib.Omega.{arith}
+use mathlib.Core.Path.{_≡_, refl, sym}
+use mathlib.Core.Bool.{Bool, true, false, cond, not, _&&_, _||_}
+use mathlib.Core.Option.{Option}
+use mathlib.Core.List.{List, [], _∷_}
+use lib.ListN.{length, take, getD, length-append}
+use lib.Dec.{leb, ltb}
+use Rattle.bits.specs.Bits.{Bits, digits}
+use Rattle.bits.specs.BitsLaws.{length-digits}
+use Rattle.elements.specs.Numbers.{held, isPresent, optionBits, optionAll, inWidth, flagWidth}
+use Rattle.elements.specs.Groups.{Form, Address, addressWidth, addressTypeWidth, addressBits, formOf, typeOf, listedForm, uplinkForms, downlinkForms, kindOf, detachmentWidth, lifetimeWidth, classOfUsageWidth, attachmentBits, attachmentFits, groupBits}
+use Rattle.elements.specs.Generics.{entriesWidth}
+use Rattle.elements.specs.EachLaws.{each-more, take-most}
+use Rattle.elements.specs.Lists.{Groups, each, all, listBits, listHeld, listFits, listOne, listListed}
+use Rattle.elements.specs.declared.group_identity_attachment.GroupIdentityAttachment.{GroupIdentityAttachment}
+use Rattle.elements.specs.declared.group_address.GroupAddress.{GroupAddress}
+use Rattle.element_writers.specs.declared.group_address.GroupsAsked.{GroupsAsked}
+
+abbrev pub addressHeld : GroupAddress → Address
+addressHeld a = record {
+  gssi = held (a .«gssi_present») (a .gssi);
+  extension = held (a .«address_extension_present») (a .«address_extension»);
+  vgssi = held (a .«vgssi_present») (a .vgssi);
+}
+
+-- how many bits the parts of an address have
+abbrev pub addressSize : Address → ℕ
+addressSize a =
+    length (optionBits (digits addressWidth) (a .gssi))
+    + (length (optionBits (digits addressWidth) (a .extension)) + length (optionBits (digits addressWidth) (a .vgssi)))
+
+module _ {G L : Type 0} (k : Groups G L) where
+  abbrev pub askedOf : G → GroupsAsked
+  askedOf g = record { fits = k .fits g; one = k .one g; listed = k .listed g; size = length (k .bits g) }
+
+  abbrev pub askedEach : List G → GroupsAsked
+  askedEach gs = record { fits = all (k .fits) gs; one = all (k .one) gs; listed = all (k .listed) gs; size = length (each (k .bits) gs) }
+
+  -- A LIST; an absent one passes them, and has no bits
+  abbrev pub askedList : L → GroupsAsked
+  askedList l = record {
+    fits = listFits k l;
+    one = listOne k l;
+    listed = listListed k l;
+    size = length (optionBits (listBits k) (listHeld k l));
+  }
+
+-- ## laws
+
+pub option-below : (p : Bool) (v n : ℕ) → (not p || ltb v n) ≡ optionAll (λ v. ltb v n) (held p v)
+option-below true v n = refl
+option-below false v n = refl
+
+pub option-size : (p : Bool) (w v : ℕ) → cond p w 0 ≡ length (optionBits (digits w) (held p v))
+option-size true w v = sym (length-digits w v)
+option-size false w v = refl
+
+pub uplink-listed : (g e v : Bool) → ((g && not v) || (not g && (not e && v))) ≡ listedForm uplinkForms (record { gssi = g; extension = e; vgssi = v })
+unfolding listedForm
+uplink-listed true true true = refl
+uplink-listed true true false = refl
+uplink-listed true false true = refl
+uplink-listed true false false = refl
+uplink-listed false true true = refl
+uplink-listed false true false = refl
+uplink-listed false false true = refl
+uplink-listed false false false = refl
+
+pub downlink-listed : (g e v : Bool) → ((g && (e || not v)) || (not g && (not e && v))) ≡ listedForm downlinkForms (record { gssi = g; extension = e; vgssi = v })
+unfolding listedForm
+downlink-listed true true true = refl
+downlink-listed true true false = refl
+downlink-listed true false true = refl
+downlink-listed true false false = refl
+downlink-listed false true true = refl
+downlink-listed false true false = refl
+downlink-listed false false true = refl
+downlink-listed false false false = refl
+
+pub attachment-fits : (p : Bool) (t : GroupIdentityAttachment)
+    → (optionAll (inWidth lifetimeWidth) (held p (t .«group_identity_attachment_lifetime»)) && optionAll (inWidth classOfUsageWidth) (held p (t .«class_of_usage»)))
+    ≡ optionAll attachmentFits (held p t)
+unfolding attachmentFits
+attachment-fits true t = refl
+attachment-fits false t = refl
+
+pub attachment-size : (p : Bool) (t : GroupIdentityAttachment) → cond p 5 0 ≡ length (optionBits attachmentBits (held p t))
+unfolding attachmentBits
+attachment-size true t =
+    let l = length-digits lifetimeWidth (t .«group_identity_attachment_lifetime») in
+    let m = length-digits classOfUsageWidth (t .«class_of_usage») in
+    rw (length-append (digits lifetimeWidth (t .«group_identity_attachment_lifetime»)) (digits classOfUsageWidth (t .«class_of_usage»))) (omega arith)
+attachment-size false t = refl
+
+-- the bits of a group
+pub group-size : {T : Type 0} (bits : T → Bits) (forms : List Form) (t : Option T) (d : Option ℕ) (a : Address)
+    → 3 + (length (optionBits bits t) + (length (optionBits (digits detachmentWidth) d) + addressSize a)) ≡ length (groupBits bits forms t d a)
+unfolding addressBits
+group-size bits forms t d a =
+    let x : Bits = digits flagWidth (kindOf (isPresent t)) in
+    let z : Bits = digits addressTypeWidth (typeOf forms (formOf a)) in
+    let lx : length x ≡ 1 = length-digits flagWidth (kindOf (isPresent t)) in
+    let lz : length z ≡ 2 = length-digits addressTypeWidth (typeOf forms (formOf a)) in
+    sym (simp length-append (omega arith))
+
+-- one group after the other
+module _ {G L : Type 0} (k : Groups G L) where
+  all-next : (test : G → Bool) (gs : List G) (i : ℕ) (d : G) → i < length gs → all test (take (suc i) gs) ≡ (all test (take i gs) && test (getD gs i d))
+  unfolding all
+  all-next test [] i d h = absurd (omega arith)
+  all-next test (g ∷ gs) zero d h = and-true (test g)
+    where
+      and-true : (b : Bool) → (b && true) ≡ b
+      and-true true = refl
+      and-true false = refl
+  all-next test (g ∷ gs) (suc i) d h = rw (all-next test gs i d (omega arith)) (go (test g))
+    where
+      go : (b : Bool) → (b && (all test (take i gs) && test (getD gs i d))) ≡ ((b && all test (take i gs)) && test (getD gs i d))
+      go true = refl
+      go false = refl
+
+  all-more : (test : G → Bool) (gs : List G) (i : ℕ) (d : G) → i < length gs → all test (take (i + 1) gs) ≡ (all test (take i gs) && test (getD gs i d))
+  all-more test gs i d h = let z : i + 1 ≡ suc i = omega arith in rw z (all-next test gs i d h)
+
+  pub asked-more : (gs : List G) (i : ℕ) (d : G) {x y : GroupsAsked} → i < length gs → x ≡ askedEach k (take i gs) → y ≡ askedOf k (getD gs i d)
+      → _≡_ {A = GroupsAsked} (record { fits = x .fits && y .fits; one = x .one && y .one; listed = x .listed && y .listed; size = x .size + y .size })
+      (askedEach k (take (i + 1) gs))
+  asked-more gs i d h e f =
+      rw (
+        e,
+        f,
+        all-more (k .fits) gs i d h,
+        all-more (k .one) gs i d h,
+        all-more (k .listed) gs i d h,
+        each-more (k .bits) gs i d h,
+        length-append (each (k .bits) (take i gs)) (k .bits (getD gs i d)),
+      )
+
+  -- the list, present and absent
+  pub list-asked : (l : L) (n : ℕ) {x : GroupsAsked} → k .present l ≡ true → x ≡ askedEach k (take n (k .groups l)) → n ≡ min (k .count l) 63 → length (k .groups l) ≡ 63
+      → _≡_ {A = GroupsAsked} (record { fits = leb (k .count l) 63 && x .fits; one = x .one; listed = x .listed; size = 6 + x .size }) (askedList k l)
+  unfolding listFits listOne listListed listBits
+  list-asked l n p e m h =
+      rw (p, e, m, take-most (k .count l) 63 (k .groups l) h)
+      (rw (length-append (digits entriesWidth (k .count l)) (each (k .bits) (take (k .count l) (k .groups l))), length-digits entriesWidth (k .count l)))
+
+  pub no-list-asked : (l : L) → k .present l ≡ false → _≡_ {A = GroupsAsked} (record { fits = true; one = true; listed = true; size = 0 }) (askedList k l)
+  unfolding listFits listOne listListed
+  no-list-asked l p = rw p

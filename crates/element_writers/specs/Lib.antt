@@ -1,0 +1,5 @@
+pub mod GroupParts
+pub mod GroupsAsked
+pub mod SavingAsked
+pub mod WrittenElements
+pub mod LocationAsked

@@ -1,0 +1,81 @@
+-- `exports::rewrite_attach_detach` meets its contract. Assumes nothing.
+use mathlib.Core.Path.{refl, sym, _∙_}
+use mathlib.Core.Bool.{false}
+use denote.Ref.{now}
+use Rattle.messages.specs.Head.{dAttachDetachGroupIdentity}
+use Rattle.messages.specs.Calls.{attachDetach}
+use Rattle.messages.specs.PlacedCalls.{own-attach-detach, taken, not-taken, good-call}
+use Rattle.exports.specs.RewriteLaws.{rewrite-refused, rewrite-taken, rewrite-bad, written-most}
+use borrow.Author.Needs.{needs}
+use Rattle.exports.proofs.rewrite_attach_detach.Statement.{statement}
+use Rattle.exports.proofs.rewrite_attach_detach.Tie as tie
+
+is-good-call-requires : tie.Need-is-good-call-requires
+is-good-call-requires c κs = search needs
+
+from-bitbuf-requires : tie.Need-from-bitbuf-requires
+from-bitbuf-requires c κs = search needs
+
+enum-told : tie.Need-enum-told
+enum-told c = search needs
+
+enum-told-2 : tie.Need-enum-told-2
+enum-told-2 c = search needs
+
+refusal-requires : tie.Need-refusal-requires
+refusal-requires c κs = search needs
+
+cast-result : tie.Need-cast-result
+cast-result c = search needs
+
+returns : tie.Need-returns
+returns c =
+    let a = c .before .before .before .before .before .before .before .before .args in
+    rewrite-refused dAttachDetachGroupIdentity (now (a .octets)) (a .first) (a .end) (now (a .out)) (a .out-first) (a .out-end)
+    (not-taken attachDetach own-attach-detach false (now (a .octets)) _ (c .before .before .before .from-bitbuf .ensures) (c .before .enum-told2 .given .1) (c .refusal .ensures)
+    ∙ good-call dAttachDetachGroupIdentity 0 (now (a .octets)) (a .first) (a .end) attachDetach refl (sym (c .before .before .before .before .before .is-good-call .ensures) ∙ c .before .before .before .before .if1 .taken))
+
+write-attach-detach-requires : tie.Need-write-attach-detach-requires
+write-attach-detach-requires c κs = search needs
+
+result-of-requires : tie.Need-result-of-requires
+result-of-requires c κs =
+    rw (c .before .before .write-attach-detach .ensures .0) (written-most dAttachDetachGroupIdentity _ _ _ _)
+
+same-length : tie.Need-same-length
+same-length c = search needs
+
+returns-2 : tie.Need-returns-2
+returns-2 c =
+    let a = c .before .before .before .before .before .before .before .before .before .before .before .before .before .args in
+    let r = rewrite-taken dAttachDetachGroupIdentity (now (a .octets)) (a .first) (a .end) (now (a .out)) (a .out-first) (a .out-end)
+    (taken attachDetach own-attach-detach false (now (a .octets)) _ (c .before .before .before .before .before .before .before .before .from-bitbuf .ensures) (c .before .before .before .before .before .before .enum-told .given .1) .answer
+    ∙ good-call dAttachDetachGroupIdentity 0 (now (a .octets)) (a .first) (a .end) attachDetach refl (sym (c .before .before .before .before .before .before .before .before .before .before .is-good-call .ensures) ∙ c .before .before .before .before .before .before .before .before .before .if1 .taken)) refl
+    (c .before .before .before .write-attach-detach .ensures .0) (c .before .before .before .write-attach-detach .ensures .1) in
+    (c .result-of .ensures ∙ r .0, r .1)
+
+cast-result-2 : tie.Need-cast-result-2
+cast-result-2 c = search needs
+
+returns-3 : tie.Need-returns-3
+returns-3 c =
+    let a = c .before .before .before .before .args in
+    rewrite-bad dAttachDetachGroupIdentity (now (a .octets)) (a .first) (a .end) (now (a .out)) (a .out-first) (a .out-end) (sym (c .before .is-good-call .ensures) ∙ c .if1 .left)
+
+pub rewrite-attach-detach-spec : {M : Type 1} → statement M
+rewrite-attach-detach-spec =
+    tie.close
+    (tie.spec
+    is-good-call-requires
+    from-bitbuf-requires
+    enum-told
+    enum-told-2
+    refusal-requires
+    cast-result
+    returns
+    write-attach-detach-requires
+    result-of-requires
+    same-length
+    returns-2
+    cast-result-2
+    returns-3)

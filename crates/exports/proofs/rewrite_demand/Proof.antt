@@ -1,0 +1,81 @@
+-- `exports::rewrite_demand` meets its contract. Assumes nothing.
+use mathlib.Core.Path.{refl, sym, _∙_}
+use mathlib.Core.Bool.{false}
+use denote.Ref.{now}
+use Rattle.messages.specs.Head.{uLocationUpdateDemand}
+use Rattle.messages.specs.Calls.{demand}
+use Rattle.messages.specs.PlacedCalls.{own-demand, taken, not-taken, good-call}
+use Rattle.exports.specs.RewriteLaws.{rewrite-refused, rewrite-taken, rewrite-bad, written-most}
+use borrow.Author.Needs.{needs}
+use Rattle.exports.proofs.rewrite_demand.Statement.{statement}
+use Rattle.exports.proofs.rewrite_demand.Tie as tie
+
+is-good-call-requires : tie.Need-is-good-call-requires
+is-good-call-requires c κs = search needs
+
+from-bitbuf-requires : tie.Need-from-bitbuf-requires
+from-bitbuf-requires c κs = search needs
+
+enum-told : tie.Need-enum-told
+enum-told c = search needs
+
+enum-told-2 : tie.Need-enum-told-2
+enum-told-2 c = search needs
+
+refusal-requires : tie.Need-refusal-requires
+refusal-requires c κs = search needs
+
+cast-result : tie.Need-cast-result
+cast-result c = search needs
+
+returns : tie.Need-returns
+returns c =
+    let a = c .before .before .before .before .before .before .before .before .args in
+    rewrite-refused uLocationUpdateDemand (now (a .octets)) (a .first) (a .end) (now (a .out)) (a .out-first) (a .out-end)
+    (not-taken demand own-demand false (now (a .octets)) _ (c .before .before .before .from-bitbuf .ensures) (c .before .enum-told2 .given .1) (c .refusal .ensures)
+    ∙ good-call uLocationUpdateDemand 0 (now (a .octets)) (a .first) (a .end) demand refl (sym (c .before .before .before .before .before .is-good-call .ensures) ∙ c .before .before .before .before .if1 .taken))
+
+write-demand-requires : tie.Need-write-demand-requires
+write-demand-requires c κs = search needs
+
+result-of-requires : tie.Need-result-of-requires
+result-of-requires c κs =
+    rw (c .before .before .write-demand .ensures .0) (written-most uLocationUpdateDemand _ _ _ _)
+
+same-length : tie.Need-same-length
+same-length c = search needs
+
+returns-2 : tie.Need-returns-2
+returns-2 c =
+    let a = c .before .before .before .before .before .before .before .before .before .before .before .before .before .args in
+    let r = rewrite-taken uLocationUpdateDemand (now (a .octets)) (a .first) (a .end) (now (a .out)) (a .out-first) (a .out-end)
+    (taken demand own-demand false (now (a .octets)) _ (c .before .before .before .before .before .before .before .before .from-bitbuf .ensures) (c .before .before .before .before .before .before .enum-told .given .1) .answer
+    ∙ good-call uLocationUpdateDemand 0 (now (a .octets)) (a .first) (a .end) demand refl (sym (c .before .before .before .before .before .before .before .before .before .before .is-good-call .ensures) ∙ c .before .before .before .before .before .before .before .before .before .if1 .taken)) refl
+    (c .before .before .before .write-demand .ensures .0) (c .before .before .before .write-demand .ensures .1) in
+    (c .result-of .ensures ∙ r .0, r .1)
+
+cast-result-2 : tie.Need-cast-result-2
+cast-result-2 c = search needs
+
+returns-3 : tie.Need-returns-3
+returns-3 c =
+    let a = c .before .before .before .before .args in
+    rewrite-bad uLocationUpdateDemand (now (a .octets)) (a .first) (a .end) (now (a .out)) (a .out-first) (a .out-end) (sym (c .before .is-good-call .ensures) ∙ c .if1 .left)
+
+pub rewrite-demand-spec : {M : Type 1} → statement M
+rewrite-demand-spec =
+    tie.close
+    (tie.spec
+    is-good-call-requires
+    from-bitbuf-requires
+    enum-told
+    enum-told-2
+    refusal-requires
+    cast-result
+    returns
+    write-demand-requires
+    result-of-requires
+    same-length
+    returns-2
+    cast-result-2
+    returns-3)

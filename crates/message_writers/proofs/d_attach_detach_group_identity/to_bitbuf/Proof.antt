@@ -1,0 +1,93 @@
+-- `message_writers::d_attach_detach_group_identity::to_bitbuf` meets its contract. Assumes nothing.
+use Rattle.bits.specs.Written.{written}
+use mathlib.Core.Path.{sym, ap, _∙_}
+use Rattle.bits.specs.PutsLaws.{field, _⨾_}
+use Rattle.messages.specs.declared.d_attach_detach_group_identity.AttachDetachHead.{AttachDetachHead}
+use Rattle.messages.specs.AttachDetach.{attachDetachAsked}
+use Rattle.messages.specs.PlacedCalls.{Fact, fact}
+use Rattle.message_writers.specs.WritesLaws.{asking, all-passed, message-written, message-refused, bit-one, bit-other}
+use Rattle.message_writers.specs.AttachDetachParts.{attachDetachHeadIn, front-most, attach-detach-generics, attach-detach-joined, attach-detach-alone}
+use borrow.Author.Needs.{needs}
+use Rattle.message_writers.proofs.d_attach_detach_group_identity.to_bitbuf.Statement.{statement}
+use Rattle.message_writers.proofs.d_attach_detach_group_identity.to_bitbuf.Tie as tie
+
+-- the number that the questions give
+abbrev asked : tie.After-first-no → Fact
+asked v =
+    let a = v .before .before .before .before .before .before .args in
+    fact (asking (v .before .before .ask .ensures) (a .octets .now) (a .c) (v .before .has .ensures) (v .first-no .ensures))
+
+ask-downlinks-requires : tie.Need-ask-downlinks-requires
+ask-downlinks-requires c κs = search needs
+
+ask-requires : tie.Need-ask-requires
+ask-requires c κs = search needs
+
+has-requires : tie.Need-has-requires
+has-requires c κs = search needs
+
+first-no-requires : tie.Need-first-no-requires
+first-no-requires c κs = search needs
+
+head-of-requires : tie.Need-head-of-requires
+head-of-requires c κs = search needs
+
+front-requires : tie.Need-front-requires
+front-requires c κs = search needs
+
+put-requires : tie.Need-put-requires
+put-requires c κs = search needs
+
+put-elements-requires : tie.Need-put-elements-requires
+put-elements-requires c κs =
+    (attach-detach-generics (c .before .before .before .before .before .before .before .before .before .before .before .before .before .before .before .before .before .before .args .d) (all-passed (asked (c .before .before .before .before .before .before .before .before .before .before .before .before) .holds) (c .before .before .before .before .before .before .before .before .before .before .before .if1 .taken) .fits))
+
+same-length : tie.Need-same-length
+same-length c = search needs
+
+returns : tie.Need-returns
+unfolding attachDetachAsked
+returns c =
+    let a = c .before .before .before .before .before .before .before .before .before .before .before .before .before .before .before .before .before .before .before .before .before .args in
+    let q = asked (c .before .before .before .before .before .before .before .before .before .before .before .before .before .before .before) .holds in
+    let h = ap (λ (x : AttachDetachHead). x .obit) (c .before .before .before .before .before .before .before .before .before .before .before .before .before .head-of .ensures) in
+    message-written q (λ i. c .before .before .before .before .before .before .before .before .before .before .before .before .before .before .before .before .before .before .before .before .slice-known .given i .fits) (c .before .before .before .before .before .before .before .before .before .before .before .before .before .before .if1 .taken) (attach-detach-joined (a .d) (c .before .before .before .before .before .before .before .before .before .before .before .before .before .before .before .before .before .before .ask-downlinks .ensures .0) (all-passed q (c .before .before .before .before .before .before .before .before .before .before .before .before .before .before .if1 .taken) .type3Only) (bit-one _ (sym h ∙ c .before .before .before .before .before .before .if2 .taken)))
+    (field (rw (c .before .before .before .before .before .before .before .before .before .before .before .before .before .head-of .ensures) at (c .before .before .before .before .before .before .before .before .before .before .before .front .ensures)) (front-most (attachDetachHeadIn (a .d))) (c .before .before .before .before .before .before .before .before .before .before .put .ensures) ⨾ c .before .before .put-elements .ensures)
+
+same-length-2 : tie.Need-same-length-2
+same-length-2 c = search needs
+
+returns-2 : tie.Need-returns-2
+unfolding attachDetachAsked
+returns-2 c =
+    let a = c .before .before .before .before .before .before .before .before .before .before .before .before .before .before .before .args in
+    let q = asked (c .before .before .before .before .before .before .before .before .before) .holds in
+    let h = ap (λ (x : AttachDetachHead). x .obit) (c .before .before .before .before .before .before .before .head-of .ensures) in
+    message-written q (λ i. c .before .before .before .before .before .before .before .before .before .before .before .before .before .before .slice-known .given i .fits) (c .before .before .before .before .before .before .before .before .if1 .taken) (attach-detach-alone (a .d) (c .before .before .before .before .before .before .before .before .before .before .before .before .ask-downlinks .ensures .0) (all-passed q (c .before .before .before .before .before .before .before .before .if1 .taken) .type3Only) (bit-other _ (λ e. c .if2 .left (h ∙ e))))
+    (field (rw (c .before .before .before .before .before .before .before .head-of .ensures) at (c .before .before .before .before .before .front .ensures)) (front-most (attachDetachHeadIn (a .d))) (c .before .before .before .before .put .ensures))
+
+refuse-requires : tie.Need-refuse-requires
+refuse-requires c κs = search needs
+
+returns-3 : tie.Need-returns-3
+returns-3 c =
+    ap (written (c .before .before .before .before .before .before .before .before .args .octets .now)) (c .refuse .ensures) ∙ message-refused (asked (c .before .before) .holds) (c .before .if1 .left)
+
+pub to-bitbuf-spec : {M : Type 1} → statement M
+to-bitbuf-spec =
+    tie.close
+    (tie.spec
+    ask-downlinks-requires
+    ask-requires
+    has-requires
+    first-no-requires
+    head-of-requires
+    front-requires
+    put-requires
+    put-elements-requires
+    same-length
+    returns
+    same-length-2
+    returns-2
+    refuse-requires
+    returns-3)
