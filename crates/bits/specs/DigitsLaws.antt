@@ -3,15 +3,14 @@ use Prim.Native.Nat.{ℕ, _+_, _*_, _%_, _^_, _≤_, _<_}
 use native.Mathlib.Omega.{arith}
 use mathlib.Core.Path.{_≡_, refl, sym, ap, ap₂, _∙_}
 use mathlib.Core.Bool.{Bool, true, false, cond}
-use mathlib.Core.List.{List, [], _∷_, _++_, append-assoc}
+use mathlib.Core.List.{List, [], _++_, append-assoc}
 use lib.ListN.{length, length-append}
 use lib.Dec.{leb, lit<}
 use borrow.Author.Tests.{le-leb, lt-leb, leb-true, leb-false}
 use Rattle.bits.specs.PduParseError.{valueTooLarge}
 use Rattle.bits.specs.Bits.{Bits, number, digits}
 use Rattle.bits.specs.BitsLaws.{number-lt, length-digits, number-digits-mod, digits-number, number-append}
-use Rattle.bits.specs.Placed.{Placed, placed, halted}
-use Rattle.bits.specs.Written.{Written, write, writeField, unwritten, written, next, bitsIn, tooWide, digitsIn, Holds, Joined, writeDigits}
+use Rattle.bits.specs.Written.{write, writeField, unwritten, written, bitsIn, tooWide, digitsIn, Holds, Joined, writeDigits}
 use Rattle.bits.specs.WrittenLaws.{field-fits, field-wide}
 use Rattle.bits.specs.declared.bitbuffer.Cursor.{Cursor}
 use Rattle.bits.specs.declared.bitbuffer.Digits.{Digits}

@@ -12,12 +12,12 @@ use Rattle.bits.specs.PduParseError.{bufferEnded}
 use Rattle.bits.specs.Bits.{Bits, bitsOf}
 use Rattle.bits.specs.BitsLaws.{length-bitsOf}
 use Rattle.bits.specs.Reader.{Answer, got, refused, Reader, _>>=_, field, word, pass, Tail}
-use Rattle.bits.specs.ReaderLaws.{local-tail, field-local, field-enough, field-short}
+use Rattle.bits.specs.ReaderLaws.{zero-one, local-tail, field-local, field-enough, field-short}
 use Rattle.bits.specs.Placed.{window, left, fieldAt, onward, Placed, placed, halted, place, at, refusal}
 use Rattle.bits.specs.declared.bitbuffer.Cursor.{Cursor}
 
 pub halted-placed : {A B : Type 0} {a : A} {c : Cursor} {n : ℕ} → halted n ≡ placed a c → B
-halted-placed e = let z : _≡_ {A = ℕ} 0 1 = cc in absurd (omega arith)
+halted-placed e = zero-one (cc)
 
 pub length-window : (os : List ℕ) (c : Cursor) → length (window os c) ≡ left (length os) c
 unfolding window
@@ -171,3 +171,12 @@ module _ (os : List ℕ) (c : Cursor) (w : ℕ) where
   pub pass-ended : left (length os) c < w → Gives (pass w) os c (halted bufferEnded)
   unfolding pass
   pass-ended h = stop _ (field-ended h)
+
+-- ## a fact with its statement, so that a proof names it once and its needs cite it
+
+pub record Fact : Type 1 where
+  pub Said : Type 0
+  pub holds : Said
+
+abbrev pub fact : {A : Type 0} → A → Fact
+fact {A} h = record { Said = A; holds = h }

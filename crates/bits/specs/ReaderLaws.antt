@@ -14,8 +14,12 @@ use Rattle.bits.specs.Bits.{Bits, number, digits}
 use Rattle.bits.specs.BitsLaws.{number-take-lt, length-digits, number-digits}
 use Rattle.bits.specs.Reader.{Answer, got, refused, Reader, then, _>>=_, field, word, pass, unless, optional, exactly, times, Local, Tail}
 
+-- two constructors are never equal: of such an equation `cc` makes 0 ≡ 1
+pub zero-one : {P : Type 0} → _≡_ {A = ℕ} 0 1 → P
+zero-one z = absurd (omega arith)
+
 pub refused-got : {A B : Type 0} {n : ℕ} {a : A} {rest : Bits} → refused n ≡ got a rest → B
-refused-got e = let z : _≡_ {A = ℕ} 0 1 = cc in absurd (omega arith)
+refused-got e = zero-one (cc)
 
 pub got-refused : {A B : Type 0} {n : ℕ} {a : A} {rest : Bits} → got a rest ≡ refused n → B
 got-refused e = refused-got (sym e)

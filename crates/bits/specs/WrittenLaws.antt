@@ -281,24 +281,6 @@ writes xs os c {os′} {k} e p = go (leb (length xs) (left (length os) c)) refl 
     go true h e p = record { room = leb-true _ _ h; octets = p; next = cc }
     go false h e p = halted-placed (sym e)
 
--- one after the other
-infixr 5 _⨟_
-pub _⨟_ : {xs ys : Bits} {os os₁ os₂ : List ℕ} {c k m : Cursor} → Writes xs os c os₁ k → Writes ys os₁ k os₂ m → Writes (xs ++ ys) os c os₂ m
-_⨟_ {xs} {ys} {os} {os₁} {os₂} {c} {k} {m} p q =
-    let l : length os₁ ≡ length os = ap length (p .octets) ∙ length-putBits os (c .at) xs in
-    let ka : k .at ≡ c .at + length xs = ap (λ (x : Cursor). x .at) (p .next) in
-    let ke : k .end ≡ c .end = ap (λ (x : Cursor). x .end) (p .next) in
-    let n : length (xs ++ ys) ≡ length xs + length ys = length-append xs ys in
-    let r = p .room in
-    let s = q .room in
-    record {
-      room = rw n (omega arith);
-      octets =
-          q .octets ∙ ap₂ (λ (o : List ℕ) (j : ℕ). putBits o j ys) (p .octets) ka
-          ∙ putBits-putBits os (c .at) xs ys (omega arith);
-      next = q .next ∙ rw (ka, ke, n, add-assoc (c .at) (length xs) (length ys));
-    }
-
 module _ {xs : Bits} {os os′ : List ℕ} {c k : Cursor} (p : Writes xs os c os′ k) where
   bits-written : bitsOf os′ ≡ splice (bitsOf os) (c .at) xs
   bits-written = let r = p .room in ap bitsOf (p .octets) ∙ bitsOf-putBits os (c .at) xs (omega arith)

@@ -26,29 +26,31 @@ option-digits false w v = refl
 
 -- ## one group
 
+-- two functions of the three parts' presences, by their tables
+module _ {A : Type 0} where
+  abbrev eightOf : (Bool → Bool → Bool → A) → List A
+  eightOf f =
+      f true true true ∷ f true true false ∷ f true false true ∷ f true false false ∷ f false true true ∷ f false true false ∷ f false false true ∷ f false false false ∷ []
+
+  pub same-eight : (f h : Bool → Bool → Bool → A) → eightOf f ≡ eightOf h → (g e v : Bool) → f g e v ≡ h g e v
+  same-eight f h t true true true = cc
+  same-eight f h t true true false = cc
+  same-eight f h t true false true = cc
+  same-eight f h t true false false = cc
+  same-eight f h t false true true = cc
+  same-eight f h t false true false = cc
+  same-eight f h t false false true = cc
+  same-eight f h t false false false = cc
+
 -- the address type, by the parts that are present
 pub uplink-type : (g e v : Bool) → cond v (cond g 3 (cond e 3 2)) (cond g (cond e 1 0) 3) ≡ typeOf uplinkForms (record { gssi = g; extension = e; vgssi = v })
 unfolding typeOf
-uplink-type true true true = refl
-uplink-type true true false = refl
-uplink-type true false true = refl
-uplink-type true false false = refl
-uplink-type false true true = refl
-uplink-type false true false = refl
-uplink-type false false true = refl
-uplink-type false false false = refl
+uplink-type = same-eight _ (λ g e v. typeOf uplinkForms (record { gssi = g; extension = e; vgssi = v })) refl
 
 pub downlink-type : (g e v : Bool)
     → cond v (cond g (cond e 3 4) (cond e 4 2)) (cond g (cond e 1 0) 4) ≡ typeOf downlinkForms (record { gssi = g; extension = e; vgssi = v })
 unfolding typeOf
-downlink-type true true true = refl
-downlink-type true true false = refl
-downlink-type true false true = refl
-downlink-type true false false = refl
-downlink-type false true true = refl
-downlink-type false true false = refl
-downlink-type false false true = refl
-downlink-type false false false = refl
+downlink-type = same-eight _ (λ g e v. typeOf downlinkForms (record { gssi = g; extension = e; vgssi = v })) refl
 
 abbrev pub groupFront : {T : Type 0} → (T → Bits) → List Form → Option T → Option ℕ → Address → Bits
 groupFront bits forms t d a =
@@ -139,18 +141,19 @@ downlink-parts g =
     rw (append-nil (groupBack (downlinkAddressIn g)))
     (group-parts attachmentBits downlinkForms (downlinkAttachment g) (downlinkDetachment g) (downlinkAddressIn g))
 
-attachment-length : (o : Option GroupIdentityAttachment) → length (optionBits attachmentBits o) ≤ 5
-unfolding attachmentBits
-attachment-length none = omega arith
-attachment-length (some t) =
-    let l = length-digits lifetimeWidth (t .«group_identity_attachment_lifetime») in
-    let m = length-digits classOfUsageWidth (t .«class_of_usage») in
-    rw (length-append (digits lifetimeWidth (t .«group_identity_attachment_lifetime»)) (digits classOfUsageWidth (t .«class_of_usage»))) (omega arith)
+-- what an attachment says has 5 bits
+pub attachment-length : (t : GroupIdentityAttachment) → length (attachmentBits t) ≡ 5
+unfolding attachmentBits digits
+attachment-length t = refl
+
+attachment-most : (o : Option GroupIdentityAttachment) → length (optionBits attachmentBits o) ≤ 5
+attachment-most none = omega arith
+attachment-most (some t) = omega (arith, attachment-length t)
 
 pub downlink-front-fits : (g : GroupIdentityDownlink) → length (downlinkFront g) ≤ 64
 unfolding downlinkFront
 downlink-front-fits g =
-    group-front-fits attachmentBits downlinkForms (downlinkAttachment g) (downlinkDetachment g) (downlinkAddressIn g) (attachment-length (downlinkAttachment g))
+    group-front-fits attachmentBits downlinkForms (downlinkAttachment g) (downlinkDetachment g) (downlinkAddressIn g) (attachment-most (downlinkAttachment g))
 
 pub downlink-back-fits : (g : GroupIdentityDownlink) → length (downlinkBack g) ≤ 64
 unfolding downlinkBack

@@ -2,7 +2,7 @@
 use Prim.Native.Nat.{ℕ, zero, suc, _+_, _<_, min}
 use native.Mathlib.Omega.{arith}
 use mathlib.Core.Path.{_≡_, refl, sym}
-use mathlib.Core.Bool.{Bool, true, false, cond, not, _&&_, _||_}
+use mathlib.Core.Bool.{Bool, true, false, cond, not, _&&_, _||_, and-true, and-assoc}
 use mathlib.Core.Option.{Option}
 use mathlib.Core.List.{List, [], _∷_}
 use lib.ListN.{length, take, getD, length-append}
@@ -16,6 +16,7 @@ use Rattle.elements.specs.EachLaws.{each-more, take-most}
 use Rattle.elements.specs.Lists.{Groups, each, all, listBits, listHeld, listFits, listOne, listListed}
 use Rattle.elements.specs.declared.group_identity_attachment.GroupIdentityAttachment.{GroupIdentityAttachment}
 use Rattle.elements.specs.declared.group_address.GroupAddress.{GroupAddress}
+use Rattle.element_writers.specs.GroupParts.{same-eight, attachment-length}
 use Rattle.element_writers.specs.declared.group_address.GroupsAsked.{GroupsAsked}
 
 abbrev pub addressHeld : GroupAddress → Address
@@ -59,25 +60,11 @@ option-size false w v = refl
 
 pub uplink-listed : (g e v : Bool) → ((g && not v) || (not g && (not e && v))) ≡ listedForm uplinkForms (record { gssi = g; extension = e; vgssi = v })
 unfolding listedForm
-uplink-listed true true true = refl
-uplink-listed true true false = refl
-uplink-listed true false true = refl
-uplink-listed true false false = refl
-uplink-listed false true true = refl
-uplink-listed false true false = refl
-uplink-listed false false true = refl
-uplink-listed false false false = refl
+uplink-listed = same-eight _ (λ g e v. listedForm uplinkForms (record { gssi = g; extension = e; vgssi = v })) refl
 
 pub downlink-listed : (g e v : Bool) → ((g && (e || not v)) || (not g && (not e && v))) ≡ listedForm downlinkForms (record { gssi = g; extension = e; vgssi = v })
 unfolding listedForm
-downlink-listed true true true = refl
-downlink-listed true true false = refl
-downlink-listed true false true = refl
-downlink-listed true false false = refl
-downlink-listed false true true = refl
-downlink-listed false true false = refl
-downlink-listed false false true = refl
-downlink-listed false false false = refl
+downlink-listed = same-eight _ (λ g e v. listedForm downlinkForms (record { gssi = g; extension = e; vgssi = v })) refl
 
 pub attachment-fits : (p : Bool) (t : GroupIdentityAttachment)
     → (optionAll (inWidth lifetimeWidth) (held p (t .«group_identity_attachment_lifetime»)) && optionAll (inWidth classOfUsageWidth) (held p (t .«class_of_usage»)))
@@ -87,11 +74,7 @@ attachment-fits true t = refl
 attachment-fits false t = refl
 
 pub attachment-size : (p : Bool) (t : GroupIdentityAttachment) → cond p 5 0 ≡ length (optionBits attachmentBits (held p t))
-unfolding attachmentBits
-attachment-size true t =
-    let l = length-digits lifetimeWidth (t .«group_identity_attachment_lifetime») in
-    let m = length-digits classOfUsageWidth (t .«class_of_usage») in
-    rw (length-append (digits lifetimeWidth (t .«group_identity_attachment_lifetime»)) (digits classOfUsageWidth (t .«class_of_usage»))) (omega arith)
+attachment-size true t = sym (attachment-length t)
 attachment-size false t = refl
 
 -- the bits of a group
@@ -111,15 +94,7 @@ module _ {G L : Type 0} (k : Groups G L) where
   unfolding all
   all-next test [] i d h = absurd (omega arith)
   all-next test (g ∷ gs) zero d h = and-true (test g)
-    where
-      and-true : (b : Bool) → (b && true) ≡ b
-      and-true true = refl
-      and-true false = refl
-  all-next test (g ∷ gs) (suc i) d h = rw (all-next test gs i d (omega arith)) (go (test g))
-    where
-      go : (b : Bool) → (b && (all test (take i gs) && test (getD gs i d))) ≡ ((b && all test (take i gs)) && test (getD gs i d))
-      go true = refl
-      go false = refl
+  all-next test (g ∷ gs) (suc i) d h = rw (all-next test gs i d (omega arith)) (sym (and-assoc (test g) (all test (take i gs)) (test (getD gs i d))))
 
   all-more : (test : G → Bool) (gs : List G) (i : ℕ) (d : G) → i < length gs → all test (take (i + 1) gs) ≡ (all test (take i gs) && test (getD gs i d))
   all-more test gs i d h = let z : i + 1 ≡ suc i = omega arith in rw z (all-next test gs i d h)

@@ -1,17 +1,16 @@
 -- What questions 8, 10, 11 and 15 find of a location demand or accept that may be absent, and its lengths; and the parts that it is written in.
-use Prim.Native.Nat.{ℕ, _+_, _^_}
+use Prim.Native.Nat.{ℕ, _+_}
 use mathlib.Core.Path.{_≡_, refl, ap}
 use mathlib.Core.Bool.{Bool, true, false, cond, _&&_}
 use mathlib.Core.Option.{Option, some}
 use mathlib.Core.List.{List, [], _++_}
 use lib.ListN.{length}
-use lib.Dec.{ltb}
 use Rattle.bits.specs.Bits.{Bits, digits}
 use Rattle.bits.specs.Written.{joined}
 use Rattle.elements.specs.Table.{lengthWidth}
 use Rattle.elements.specs.Numbers.{held, optionBits, optionAll, inWidth, flagWidth}
 use Rattle.elements.specs.Lists.{Groups, uplinks, downlinks, listBits, listHeld, listFits, listOne, listListed}
-use Rattle.elements.specs.Locations.{nestedBits, groupIdentityUplink, groupIdentityDownlink, locationDemandBits, locationDemandFits, locationAcceptBits, locationAcceptFits}
+use Rattle.elements.specs.Locations.{lengthsFit, nestedBits, groupIdentityUplink, groupIdentityDownlink, locationDemandBits, locationDemandFits, locationAcceptBits, locationAcceptFits}
 use Rattle.elements.specs.declared.group_identity_location_demand.GroupIdentityLocationDemand.{GroupIdentityLocationDemand}
 use Rattle.elements.specs.declared.group_identity_location_demand.OptionalLocationDemand.{OptionalLocationDemand}
 use Rattle.elements.specs.declared.group_identity_location_accept.GroupIdentityLocationAccept.{GroupIdentityLocationAccept}
@@ -22,17 +21,13 @@ use Rattle.element_writers.specs.WrittenElements.{optionalBits, structur
 use Rattle.element_writers.specs.declared.group_address.GroupsAsked.{GroupsAsked}
 use Rattle.element_writers.specs.declared.group_address.LocationAsked.{LocationAsked}
 
--- QUESTION 15 of one length
-abbrev pub inLength : ℕ → Bool
-inLength n = ltb n (2 ^ lengthWidth)
-
 -- of what is asked of its own number, and of its list
 abbrev pub locationOf : Bool → Bool → GroupsAsked → LocationAsked
 locationOf own listed a = record {
   fits = own && a .fits;
   one = a .one;
   listed = a .listed;
-  short = inLength (2 + cond listed (18 + a .size) 1) && inLength (a .size);
+  short = inWidth lengthWidth (2 + cond listed (18 + a .size) 1) && inWidth lengthWidth (a .size);
   list = a .size;
   content = 2 + cond listed (18 + a .size) 1;
 }
@@ -48,7 +43,7 @@ module _ {G L D : Type 0} (k : Groups G L) (fits : D → Bool) (bits : D → Bit
     fits = optionAll fits o;
     one = optionAll (λ d. listOne k (list d)) o;
     listed = optionAll (λ d. listListed k (list d)) o;
-    short = optionAll (λ d. inLength (length (bits d)) && inLength (length (listContent d))) o;
+    short = optionAll (λ d. lengthsFit k (bits d) (list d)) o;
     list = length (optionBits listContent o);
     content = length (optionBits bits o);
   }

@@ -8,12 +8,11 @@ use mathlib.Core.Option.{Option, none, some}
 use mathlib.Core.List.{List, [], _∷_, _++_}
 use lib.ListN.{length, length-append}
 use lib.Dec.{eqb}
-use borrow.Author.Tests.{eqb-true}
 use Rattle.bits.specs.Bits.{Bits}
 use Rattle.bits.specs.Reader.{Answer, got, refused, Reader, then, _>>=_, Local}
-use Rattle.bits.specs.ReaderLaws.{refused-got, split-then, Agree, both, neither, agree, Passes}
-use Rattle.elements.specs.Table.{Look, outside, ends, opens, look, header, closing, whole, Piece, pieces, walk, unlisted, cut, total, Counted, counted, element, slot-if, slot-at, slot, skip, isListed, scan}
-use Rattle.elements.specs.TableLaws.{closing-ends, closing-opens, whole-local, whole-identifier, whole-stands, Stands, stands-looks, Halts, at-end, at-stop, pieces-halts, pieces-on, More, pieces-got, listed-first, listed-later, element-local}
+use Rattle.bits.specs.ReaderLaws.{zero-one, refused-got, split-then, Agree, both, neither, agree, Passes}
+use Rattle.elements.specs.Table.{Look, ends, look, header, closing, whole, Piece, pieces, walk, unlisted, cut, total, Counted, counted, element, slot-if, slot, skip, isListed, scan}
+use Rattle.elements.specs.TableLaws.{slot-cases, closing-ends, closing-opens, whole-local, whole-identifier, whole-stands, Stands, stands-looks, Halts, at-end, at-stop, pieces-halts, pieces-on, More, pieces-got, listed-first, listed-later, element-local}
 
 -- ALIKE: both answers give the same, the first with n skipped and the second with none; or both refuse (with any numbers)
 pub data Alike {A : Type 0} (n : ℕ) (x y : Answer (Counted A)) : Type 0 where
@@ -30,7 +29,7 @@ walk-nil bs e = let (h, r) = pieces-got (λ i. false) bs e in (ended h, r)
   where
     ended : {l : Look} → Halts (λ i. false) l → l ≡ ends
     ended (at-end l) = l
-    ended (at-stop i l t) = let z : _≡_ {A = ℕ} 0 1 = cc in absurd (omega arith)
+    ended (at-stop i l t) = zero-one (cc)
 
 walk-cons : (bs : Bits) {p : Piece} {ps : List Piece} {rest : Bits} → walk bs ≡ got (p ∷ ps) rest → More (λ i. false) bs p ps rest
 walk-cons bs e = pieces-got (λ i. false) bs e
@@ -56,7 +55,7 @@ module _ (listed : ℕ → Bool) where
       test : (b : Bool) → cond b (unlisted listed ps) (p ∷ unlisted listed ps) ≡ [] → (mid : Bits) → bs ≡ p .bits ++ mid
           → (unlisted listed ps ≡ [] → cut listed ps rest ≡ mid) → cond b (p .bits ++ cut listed ps rest) (cut listed ps rest) ≡ bs
       test true h mid s ih = rw (ih h) (sym s)
-      test false h mid s ih = let z : _≡_ {A = ℕ} 0 1 = cc in absurd (omega arith)
+      test false h mid s ih = zero-one (cc)
 
   abbrev Settled : List Piece → Type 0
   Settled [] = Unit
@@ -135,6 +134,16 @@ module _ (listed : ℕ → Bool) where
       let x = pieces-got listed bs e in
       let k : suc (length us) + m ≡ suc (length us + m) = omega arith in
       rw k (rw (x .on) at (walks-one (length us + m) (x .stands) (pieces-walks us (x .mid) (x .others) w)))
+
+  skip-walks : (b : Bool) (bs : Bits) {n : ℕ} {mid : Bits} {m : ℕ} → skip listed b bs ≡ got n mid → Walks mid m → Walks bs (n + m)
+  skip-walks true bs {n} {mid} e w = split-then (pieces listed bs) _ e (λ us r p q.
+      let h : length us ≡ n = cc in
+      let k : mid ≡ r = cc in
+      rw (← h) (pieces-walks us bs p (rw k at w)))
+  skip-walks false bs {n} {mid} {m} e w =
+      let h : 0 ≡ n = cc in
+      let k : mid ≡ bs = cc in
+      rw (← h, zero-add m) (rw k at w)
 
 module _ {S A : Type 0} (identifier : S → ℕ) (content : S → ℕ → Reader A)
     (local : (s : S) (n : ℕ) → Local (content s n)) (passes : (s : S) (n : ℕ) → Passes n (content s n)) where
@@ -217,52 +226,32 @@ module _ {S A : Type 0} (identifier : S → ℕ) (content : S → ℕ → Reader
     abbrev pub Listed : List S → Type 0
     Listed ss = (i : ℕ) → isListed identifier ss i ≡ true → listed i ≡ true
 
-    skip-walks : (b : Bool) (bs : Bits) {n : ℕ} {mid : Bits} {m : ℕ} → skip identifier content listed b bs ≡ got n mid → Walks listed mid m → Walks listed bs (n + m)
-    skip-walks true bs {n} {mid} e w = split-then (pieces listed bs) _ e (λ us r p q.
-        let h : length us ≡ n = cc in
-        let k : mid ≡ r = cc in
-        rw (← h) (pieces-walks listed us bs p (rw k at w)))
-    skip-walks false bs {n} {mid} {m} e w =
-        let h : 0 ≡ n = cc in
-        let k : mid ≡ bs = cc in
-        rw (← h, zero-add m) (rw k at w)
-
     slot-walks : (s : S) → listed (identifier s) ≡ true → (bs : Bits) {a : Option A} {mid : Bits} {m : ℕ} → slot identifier content s bs ≡ got a mid
         → Walks listed mid m → Walks listed bs m
-    slot-walks s t bs {a} {mid} {m} e w = at (look bs) refl e
-      where
-        absent : got none bs ≡ got a mid → Walks listed bs m
-        absent e = let h : mid ≡ bs = cc in rw h at w
-
-        at : (l : Look) → look bs ≡ l → slot-at identifier content s l bs ≡ got a mid → Walks listed bs m
-        at outside l e = refused-got e
-        at ends l e = absent e
-        at (opens i) l e = test (eqb i (identifier s)) refl e
-          where
-            test : (b : Bool) → eqb i (identifier s) ≡ b → slot-if identifier content s b bs ≡ got a mid → Walks listed bs m
-            test false h e = absent e
-            test true h e = split-then (element identifier content s bs) _ e (λ x r p q.
-                let k : r ≡ mid = cc in
-                let (j, y) = element-whole s bs (rw k at p) in
-                let ij : i ≡ j = whole-identifier bs l y in
-                let js : listed j ≡ true = rw (← ij, eqb-true i (identifier s) h) t in
-                rw js at (walks-one listed m (whole-stands (rw ij at l) (whole-local .at bs j mid y)) w))
+    slot-walks s t bs {a} {mid} {m} e w =
+        slot-cases identifier content s (λ r. r bs ≡ got a mid → Walks listed bs m) (λ e. refused-got e) (λ e. let h : mid ≡ bs = cc in rw h at w) (look bs) (λ l e.
+        split-then (element identifier content s bs) _ e (λ x r p q.
+        let k : r ≡ mid = cc in
+        let (j, y) = element-whole s bs (rw k at p) in
+        let ij : identifier s ≡ j = whole-identifier bs l y in
+        let js : listed j ≡ true = rw (← ij) t in
+        rw js at (walks-one listed m (whole-stands (rw ij at l) (whole-local .at bs j mid y)) w))) e
 
     -- THE WALK STAYS INSIDE where either reading gives a value, and has met as many unlisted elements as the reading skipped
     pub scan-walks : (b : Bool) (ss : List S) → Listed ss → (bs : Bits) {x : Counted (List (Option A))} {rest : Bits} → scan identifier content listed b ss bs ≡ got x rest
         → Walks listed bs (x .skipped)
     unfolding scan unlisted
     scan-walks b [] t bs {x} e =
-        split-then (skip identifier content listed b bs) _ e (λ n mid p q.
+        split-then (skip listed b bs) _ e (λ n mid p q.
         split-then (closing mid) _ q (λ z r p′ q′.
         let k : n + 0 ≡ n = omega arith in
         let g : counted (n + 0) [] ≡ x = cc in
-        rw (← g) (skip-walks b bs p (record { met = []; after = mid; walked = walk-ends mid (closing-ends mid p′); count = refl }))))
+        rw (← g) (skip-walks listed b bs p (record { met = []; after = mid; walked = walk-ends mid (closing-ends mid p′); count = refl }))))
     scan-walks b (s ∷ ss) t bs {x} e =
-        split-then (skip identifier content listed b bs) _ e (λ n r₁ p₁ q₁.
+        split-then (skip listed b bs) _ e (λ n r₁ p₁ q₁.
         split-then (slot identifier content s r₁) _ q₁ (λ a r₂ p₂ q₂.
         split-then (scan identifier content listed b ss r₂) _ q₂ (λ y r₃ p₃ q₃.
         let g : counted (n + y .skipped) (a ∷ y .value) ≡ x = cc in
         let here : listed (identifier s) ≡ true = t (identifier s) (listed-first identifier s ss) in
         let later : Listed ss = λ i h. t i (listed-later identifier s ss i h) in
-        rw (← g) (skip-walks b bs p₁ (slot-walks s here r₁ p₂ (scan-walks b ss later r₂ p₃))))))
+        rw (← g) (skip-walks listed b bs p₁ (slot-walks s here r₁ p₂ (scan-walks b ss later r₂ p₃))))))

@@ -29,8 +29,12 @@ type3 n = kept n >>= λ d. got (record { len = n; «data» = d })
 abbrev pub entries : {A : Type 0} → (ℕ → ℕ → Reader A) → ℕ → Reader A
 entries r n = field entriesWidth >>= λ k. unless (leb entriesWidth n) type4Underflow >>= λ z. r k (n - entriesWidth)
 
+-- behind the number of entries k: n bits of data
+abbrev pub keptEntries : ℕ → ℕ → Reader Type4FieldGeneric
+keptEntries k n = kept n >>= λ d. got (record { len = n; elems = k; «data» = d })
+
 unfoldable pub type4 : ℕ → Reader Type4FieldGeneric
-type4 = entries (λ k n. kept n >>= λ d. got (record { len = n; elems = k; «data» = d }))
+type4 = entries keptEntries
 
 abbrev pub noType3 : Type3FieldGeneric
 noType3 = record { len = 0; «data» = 0 }

@@ -10,11 +10,11 @@ use borrow.Author.Tests.{leb-true, le-leb, eq-eqb}
 use Rattle.bits.specs.PduParseError.{type4Underflow}
 use Rattle.bits.specs.Bits.{Bits, digits}
 use Rattle.bits.specs.BitsLaws.{length-digits}
-use Rattle.bits.specs.Reader.{Reader, got, then, _>>=_, field, pass, unless, exactly, Local}
+use Rattle.bits.specs.Reader.{Reader, got, then, field, pass, unless, exactly, Local}
 use Rattle.bits.specs.ReaderLaws.{local·rules, split-then, refused-got, field-enough, Passes, field-passes, pass-passes, got-passes, bind-passes, unless-passes}
 use Rattle.elements.specs.Numbers.{inWidth}
 use Rattle.elements.specs.NumbersLaws.{both, number-back}
-use Rattle.elements.specs.Generics.{dataWidth, entriesWidth, kept, type3, entries, type4, type3Bits, type4Bits, type3Fits, type4Fits}
+use Rattle.elements.specs.Generics.{dataWidth, entriesWidth, kept, type3, entries, keptEntries, type4, type3Bits, type4Bits, type3Fits, type4Fits}
 use Rattle.elements.specs.declared.typed_pdu_fields.Type3FieldGeneric.{Type3FieldGeneric}
 use Rattle.elements.specs.declared.typed_pdu_fields.Type4FieldGeneric.{Type4FieldGeneric}
 
@@ -33,10 +33,6 @@ unfolding type4
 type4-local n = search (local·rules, kept-local) depth 8
 
 -- ## reading back
-
--- what a generic type 4 element holds behind its number of entries
-abbrev keptEntries : ℕ → ℕ → Reader Type4FieldGeneric
-keptEntries k n = kept n >>= λ d. got (record { len = n; elems = k; «data» = d })
 
 kept-back : (n v : ℕ) → leb n dataWidth ≡ true → inWidth n v ≡ true → (rest : Bits) → kept n (digits n v ++ rest) ≡ got v rest
 unfolding kept pass
@@ -106,4 +102,4 @@ type3-passes n = bind-passes n 0 (kept n) _ (omega arith) (kept-passes n) (λ d.
 
 pub type4-passes : (n : ℕ) → Passes n (type4 n)
 unfolding type4
-type4-passes = entries-passes keptEntries (λ k n. bind-passes n 0 (kept n) _ (omega arith) (kept-passes n) (λ d. got-passes (record { len = n; elems = k; «data» = d })))
+type4-passes = entries-passes keptEntries (λ k n. bind-passes n 0 (kept n) _ (omega arith) (kept-passes n) (λ d. got-passes _))

@@ -10,7 +10,8 @@ use Rattle.elements.specs.Groups.{Address, noAttachment}
 use Rattle.elements.specs.Lists.{Groups, list, listOf, uplinks, downlinks}
 use Rattle.elements.specs.Locations.{noLocationDemand, noLocationAccept}
 use Rattle.elements.specs.Kinds.{row, ofLocationDemand, ofLocationAccept, ofDownlinks, heldElement, identifierOf, content, absentLocationDemand, absentLocationAccept}
-use Rattle.elements.specs.Answers.{answerOf}
+use Rattle.elements.specs.Answers.{u32Of, answerOf}
+use Rattle.elements.specs.declared.typed_pdu_fields.OptionalU32.{OptionalU32}
 use Rattle.elements.specs.declared.group_address.GroupAddress.{GroupAddress}
 use Rattle.elements.specs.declared.group_address.AddressRead.{AddressRead}
 use Rattle.elements.specs.declared.group_address.AddressRead.the-variants as A
@@ -48,15 +49,19 @@ use Rattle.elements.specs.declared.energy_saving_information.OptionalSav
 
 -- ## addresses and attachments
 
-abbrev pub groupAddress : Address → GroupAddress
-groupAddress a = record {
-  gssi = valueOr 0 (a .gssi);
-  «address_extension» = valueOr 0 (a .extension);
-  vgssi = valueOr 0 (a .vgssi);
-  «gssi_present» = isPresent (a .gssi);
-  «address_extension_present» = isPresent (a .extension);
-  «vgssi_present» = isPresent (a .vgssi);
+-- an address, as the code holds it, of its parts
+abbrev pub addressFrom : OptionalU32 → OptionalU32 → OptionalU32 → GroupAddress
+addressFrom g e v = record {
+  gssi = g .value;
+  «address_extension» = e .value;
+  vgssi = v .value;
+  «gssi_present» = g .present;
+  «address_extension_present» = e .present;
+  «vgssi_present» = v .present;
 }
+
+abbrev pub groupAddress : Address → GroupAddress
+groupAddress a = addressFrom (u32Of (a .gssi)) (u32Of (a .extension)) (u32Of (a .vgssi))
 
 -- an address, as the code holds it
 abbrev pub addressRead : Reader Address → Reader GroupAddress

@@ -2,7 +2,7 @@
 use Prim.Native.Nat.{ℕ, _^_, _≤_, _<_}
 use native.Mathlib.Omega.{arith}
 use mathlib.Core.Path.{_≡_, refl, ap}
-use mathlib.Core.Bool.{Bool, true, false, _&&_}
+use mathlib.Core.Bool.{Bool, true, false}
 use mathlib.Core.Option.{Option, none, some}
 use mathlib.Core.List.{_++_}
 use lib.ListN.{length, length-append}
@@ -14,13 +14,13 @@ use Rattle.bits.specs.Reader.{Answer, Reader, got, then, Local}
 use Rattle.bits.specs.ReaderLaws.{got-local, bind-local, split-then, Passes, got-passes, bind-passes}
 use Rattle.elements.specs.Table.{lengthWidth}
 use Rattle.elements.specs.TableBack.{Back, SlotBack}
-use Rattle.elements.specs.Numbers.{held, optionBits, optionAll, optionMap, inWidth}
+use Rattle.elements.specs.Numbers.{held, optionAll, optionMap}
 use Rattle.elements.specs.NumbersLaws.{both}
 use Rattle.elements.specs.Generics.{dataWidth, entriesWidth, type3, type4, type3Bits, type4Bits, type3Fits, type4Fits}
 use Rattle.elements.specs.GenericsLaws.{type3-local, type4-local, type3-passes, type4-passes, type3-back, type4-back}
-use Rattle.elements.specs.Lists.{entriesMost, Groups, list, listHeld, listBits, listOne, listListed, downlinks}
+use Rattle.elements.specs.Lists.{entriesMost, lengthFits, Groups, list, listHeld, listBits, listOne, listListed, downlinks}
 use Rattle.elements.specs.ListsLaws.{downlinks-sound, list-local, list-passes, list-back, list-own}
-use Rattle.elements.specs.Locations.{locationDemand, locationAccept}
+use Rattle.elements.specs.Locations.{lengthsFit, locationDemand, locationAccept}
 use Rattle.elements.specs.LocationsLaws.{ListOk, Structure, demand-laws, accept-laws}
 use Rattle.elements.specs.Kinds.{Kind, genericType3, genericType4, ofLocationDemand, ofLocationAccept, ofDownlinks, Slot, row, Element, isType3, isType4, isLocationDemand, isLocationAccept, isDownlinks, contentOf, contentBitsOf, normalOf, content, contentBits, elementNormal, type3Held, type3Slot, type4Held, type4Slot}
 use Rattle.elements.specs.declared.typed_pdu_fields.Type3FieldGeneric.{Type3FieldGeneric}
@@ -105,10 +105,6 @@ unfolding contentOf contentBitsOf normalOf
 type4-slot-back i o =
     option-slot-back (row i genericType4) isType4 type4Fits (λ g f. record { short = type4-short g f; reads = λ rest. rw (type4-back g f rest) }) (type4Held o)
 
--- QUESTION 15 for a structure with a list: both lengths fit
-abbrev pub lengthsFit : {G L : Type 0} → Groups G L → Bits → L → Bool
-lengthsFit k xs l = inWidth lengthWidth (length xs) && inWidth lengthWidth (length (optionBits (listBits k) (listHeld k l)))
-
 -- a structure that may be absent and has a list inside, where the answers to the questions are enough for reading back
 module _ {G L D : Type 0} {k : Groups G L} {inner : D → L} {body : Reader D} {structure : ℕ → Reader D} {bits : D → Bits} {fits : D → Bool} {normal : D → D}
     {Same : D → D → Type 0} (laws : Structure k inner body structure bits fits normal Same) (s : Slot) (is : D → Element) where
@@ -124,7 +120,7 @@ module _ {G L D : Type 0} {k : Groups G L} {inner : D → L} {body : Reader D} {
   structure-slot-back : ((d : D) → length (bits d) < 2 ^ lengthWidth → ((rest : Bits) → structure (length (bits d)) (bits d ++ rest) ≡ got (normal d) rest)
       → Back content contentBits elementNormal s (is d)) → (p : Bool) (d : D) → StructureBack p d
   structure-slot-back back true d full f o l h =
-      let x = both (inWidth lengthWidth (length (bits d))) _ h in
+      let x = both (lengthFits (bits d)) _ h in
       back d (ltb-true _ _ (x .0))
       (laws .back d f (record { array = full; fits = laws .inner-fits d f; one = o; listed = l; short = ltb-true _ _ (x .1) }))
   structure-slot-back back false d full f o l h = tt

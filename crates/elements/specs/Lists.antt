@@ -8,7 +8,8 @@ use lib.ListN.{length, take, replicate}
 use lib.Dec.{leb}
 use Rattle.bits.specs.Bits.{Bits, digits}
 use Rattle.bits.specs.Reader.{Reader, got, _>>=_, times, exactly}
-use Rattle.elements.specs.Numbers.{held, optionAll, optionMap}
+use Rattle.elements.specs.Numbers.{held, optionAll, optionMap, inWidth}
+use Rattle.elements.specs.Table.{lengthWidth}
 use Rattle.elements.specs.Generics.{entriesWidth, entries}
 use Rattle.elements.specs.Groups.{uplink, uplinkOf, uplinkBits, uplinkFits, uplinkOne, uplinkListed, uplinkNormal, SameUplink, downlink, downlinkOf, downlinkBits, downlinkFits, downlinkOne, downlinkListed, downlinkNormal, SameDownlink, noAddressIn}
 use Rattle.elements.specs.declared.group_identity_uplink.GroupIdentityUplink.{GroupIdentityUplink}
@@ -19,6 +20,10 @@ use Rattle.elements.specs.declared.group_identity_downlink.OptionalDownl
 -- how many entries a list has room for
 abbrev pub entriesMost : ℕ
 entriesMost = 63
+
+-- QUESTION 15: the length of a content is in its width
+abbrev pub lengthFits : Bits → Bool
+lengthFits xs = inWidth lengthWidth (length xs)
 
 -- what each entry gives, as its bits, one after the other
 unfoldable pub each : {A G : Type 0} → (G → List A) → List G → List A

@@ -10,10 +10,10 @@ use lib.Dec.{eqb}
 use Rattle.bits.specs.PduParseError.{invalidValue}
 use Rattle.bits.specs.Bits.{Bits, digits}
 use Rattle.bits.specs.Reader.{Reader, got, then, _>>=_, field, pass, unless, exactly}
-use Rattle.elements.specs.Numbers.{valueOr, inWidth, flagWidth, announced}
+use Rattle.elements.specs.Numbers.{valueOr, optionBits, inWidth, flagWidth, announced}
 use Rattle.elements.specs.Table.{scanTable}
 use Rattle.elements.specs.TableWritten.{tableBits}
-use Rattle.elements.specs.Lists.{Groups, list, listOf, listHeld, listBits, listFits, listNormal, SameList, uplinks, downlinks}
+use Rattle.elements.specs.Lists.{lengthFits, Groups, list, listOf, listHeld, listBits, listFits, listNormal, SameList, uplinks, downlinks}
 use Rattle.elements.specs.declared.group_identity_location_demand.GroupIdentityLocationDemand.{GroupIdentityLocationDemand}
 use Rattle.elements.specs.declared.group_identity_location_accept.GroupIdentityLocationAccept.{GroupIdentityLocationAccept}
 
@@ -29,6 +29,10 @@ module _ {G L : Type 0} (k : Groups G L) (identifier : ℕ) where
 
   unfoldable pub nestedBits : L → Bits
   nestedBits l = announced (k .present l) (tableBits (λ i. i) (λ i. listBits k) (identifier ∷ []) (listHeld k l ∷ []))
+
+-- QUESTION 15 of a structure whose bits are xs, and of the list that it holds
+abbrev pub lengthsFit : {G L : Type 0} → Groups G L → Bits → L → Bool
+lengthsFit k xs l = lengthFits xs && lengthFits (optionBits (listBits k) (listHeld k l))
 
 -- identifiers of the lists inside (clause 16.10.51)
 abbrev pub groupIdentityUplink : ℕ

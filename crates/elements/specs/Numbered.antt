@@ -11,12 +11,13 @@ use Rattle.bits.specs.PduParseError.{bufferEnded, invalidValue, type4Underflow,
 use Rattle.bits.specs.Bits.{Bits, number}
 use Rattle.bits.specs.Reader.{Answer, got, refused, Reader, then, _>>=_, field, pass, unless, optional, exactly, times}
 use Rattle.bits.specs.ReaderLaws.{got-refused, refused-same, optional-made, times-made}
-use Rattle.elements.specs.Table.{mbitWidth, Look, outside, ends, opens, look, header, closing, usedOf, whole, piece, Piece, next-if, next-at, next, onward, manyOf, many, pieces, element, slot-if, slot-at, slot, skip, scan, scanTable}
+use Rattle.elements.specs.Table.{mbitWidth, look, header, closing, usedOf, whole, piece, Piece, next, onward, manyOf, many, pieces, element, slot, skip, scan, scanTable}
+use Rattle.elements.specs.TableLaws.{slot-cases, next-cases}
 use Rattle.elements.specs.Numbers.{flagWidth, type2}
 use Rattle.elements.specs.Groups.{Form, addressOf, uplinkAddress, downlinkAddress, uplink, downlink, attachmentInfo}
 use Rattle.elements.specs.ClassOfMs.{numbers, classOfMs}
 use Rattle.elements.specs.EnergySaving.{energySaving}
-use Rattle.elements.specs.Generics.{kept, type3, type4, entries, entriesWidth}
+use Rattle.elements.specs.Generics.{kept, keptEntries, type3, type4, entries, entriesWidth}
 use Rattle.elements.specs.Lists.{Groups, list, listOf, uplinks, downlinks}
 use Rattle.elements.specs.Locations.{groupIdentityUplink, groupIdentityDownlink, nested, nested-if, isUnset, demandReserved, demandBody, locationDemand, acceptReserved, acceptBody, locationAccept}
 use Rattle.elements.specs.Kinds.{Kind, genericType3, genericType4, ofLocationDemand, ofLocationAccept, ofDownlinks, contentOf, Slot, content}
@@ -138,7 +139,7 @@ type3-numbered n = search (numbered·rules, kept-numbered)
 
 type4-numbered : (n : ℕ) → Numbered (type4 n)
 unfolding type4
-type4-numbered = entries-numbered _ (λ k n. bind-numbered (kept n) _ (kept-numbered n) (λ d. got-numbered (record { len = n; elems = k; «data» = d })))
+type4-numbered = entries-numbered keptEntries (λ k n. bind-numbered (kept n) _ (kept-numbered n) (λ d. got-numbered _))
 
 list-numbered : {G L : Type 0} (k : Groups G L) → Numbered (k .group) → (n : ℕ) → Numbered (list k n)
 unfolding list
@@ -164,16 +165,11 @@ unfolding closing
 closing-numbered = bind-numbered (field mbitWidth) _ (field-numbered mbitWidth) (λ m. unless-numbered (eqb m 0) invalidTrailingMbitValue seven)
 
 next-numbered : (stop : ℕ → Bool) → Numbered (next stop)
-next-numbered stop = record { at = λ bs n e. look-case bs n (look bs) e }
-  where
-    test : (b : Bool) (bs : Bits) (n : ℕ) → next-if b bs ≡ refused n → ReadingNumber n
-    test true bs n e = got-refused e
-    test false bs n e = bind-numbered piece (λ p. got (some p)) piece-numbered (λ p. got-numbered (some p)) .at bs n e
-
-    look-case : (bs : Bits) (n : ℕ) (l : Look) → next-at stop l bs ≡ refused n → ReadingNumber n
-    look-case bs n outside e = rw (← refused-same e) ended
-    look-case bs n ends e = got-refused e
-    look-case bs n (opens i) e = test (stop i) bs n e
+next-numbered stop = record {
+  at = λ bs.
+      next-cases stop Numbered (refused-numbered bufferEnded ended) (look bs) (λ h. got-numbered none)
+      (λ i l t. bind-numbered piece (λ p. got (some p)) piece-numbered (λ p. got-numbered (some p))) .at bs;
+}
 
 many-numbered : {A : Type 0} (r : Reader (Option A)) → Numbered r → (m : ℕ) → Numbered (manyOf m r)
 unfolding manyOf
@@ -189,31 +185,25 @@ pieces-numbered : (stop : ℕ → Bool) → Numbered (pieces stop)
 unfolding pieces many
 pieces-numbered stop = record { at = λ bs n e. many-numbered (next stop) (next-numbered stop) (suc (length bs)) .at bs n e }
 
+skip-numbered : (listed : ℕ → Bool) (b : Bool) → Numbered (skip listed b)
+skip-numbered listed true = bind-numbered (pieces listed) _ (pieces-numbered listed) (λ ps. got-numbered (length ps))
+skip-numbered listed false = got-numbered 0
+
 module _ {S A : Type 0} (identifier : S → ℕ) (content : S → ℕ → Reader A) (h : (s : S) (n : ℕ) → Numbered (content s n)) where
   slot-numbered : (s : S) → Numbered (slot identifier content s)
-  slot-numbered s = record { at = λ bs n e. look-case bs n (look bs) e }
-    where
-      test : (b : Bool) (bs : Bits) (n : ℕ) → slot-if identifier content s b bs ≡ refused n → ReadingNumber n
-      test true bs n e =
-          bind-numbered (element identifier content s) (λ a. got (some a))
-          (bind-numbered header _ header-numbered (λ x. h s (x .size))) (λ a. got-numbered (some a)) .at bs n e
-      test false bs n e = got-refused e
-
-      look-case : (bs : Bits) (n : ℕ) (l : Look) → slot-at identifier content s l bs ≡ refused n → ReadingNumber n
-      look-case bs n outside e = rw (← refused-same e) ended
-      look-case bs n ends e = got-refused e
-      look-case bs n (opens i) e = test (eqb i (identifier s)) bs n e
-
-  skip-numbered : (listed : ℕ → Bool) (b : Bool) → Numbered (skip identifier content listed b)
-  skip-numbered listed true = bind-numbered (pieces listed) _ (pieces-numbered listed) (λ ps. got-numbered (length ps))
-  skip-numbered listed false = got-numbered 0
+  slot-numbered s = record {
+    at = λ bs.
+        slot-cases identifier content s Numbered (refused-numbered bufferEnded ended) (got-numbered none) (look bs) (λ l.
+        bind-numbered (element identifier content s) (λ a. got (some a))
+        (bind-numbered header _ header-numbered (λ x. h s (x .size))) (λ a. got-numbered (some a))) .at bs;
+  }
 
   pub scan-numbered : (listed : ℕ → Bool) (b : Bool) (ss : List S) → Numbered (scan identifier content listed b ss)
   unfolding scan
   scan-numbered listed b [] =
-      bind-numbered (skip identifier content listed b) _ (skip-numbered listed b) (λ n. bind-numbered closing _ closing-numbered (λ z. got-numbered _))
+      bind-numbered (skip listed b) _ (skip-numbered listed b) (λ n. bind-numbered closing _ closing-numbered (λ z. got-numbered _))
   scan-numbered listed b (s ∷ ss) =
-      bind-numbered (skip identifier content listed b) _ (skip-numbered listed b)
+      bind-numbered (skip listed b) _ (skip-numbered listed b)
       (λ n. bind-numbered (slot identifier content s) _ (slot-numbered s)
       (λ a. bind-numbered (scan identifier content listed b ss) _ (scan-numbered listed b ss) (λ x. got-numbered _)))
 

@@ -17,7 +17,6 @@ use Rattle.bits.specs.declared.bitbuffer.Cursor.{Cursor}
 use Rattle.elements.specs.Table.{Counted, counted, closing, isListed, slot, scan}
 use Rattle.elements.specs.TableLaws.{closing-local}
 use Rattle.elements.specs.Kinds.{Slot, Element, identifierOf, content}
-use Rattle.elements.specs.KindsLaws.{content-local}
 use Rattle.elements.specs.Rows.{genericRow, genericIn, genericSlot, generics, skipping, tableEnd, noGenerics, slotsIn, behindPart, part}
 use Rattle.elements.specs.PlacedOptional.{made-of, made-not, ends}
 use Rattle.elements.specs.PlacedTable.{skip-fewer, skipping-tail, held-tail, generic-slot-tail, filled}
@@ -103,7 +102,7 @@ module _ (table : List Slot) (b : Bool) where
   at-most f tail {os} {c} {k} {a} e = let t = told tail e in omega (arith, f .most (window os c) a (window os k) (t .said), t .used)
 
   skipping-bounded : Bounded (λ n. n) (skipping table b)
-  skipping-bounded = record { most = λ bs n rest e. skip-fewer identifierOf content content-local (isListed identifierOf table) b bs e }
+  skipping-bounded = record { most = λ bs n rest e. skip-fewer (isListed identifierOf table) b bs e }
 
   behind-bounded : (last : Bool) → Bounded (λ n. n) (behindPart last table b)
   behind-bounded true = record {
@@ -249,10 +248,14 @@ module _ (table : List Slot) (b : Bool) where
           no-back e = from-back (stop _ e)
 
           module _ {g : Slots} {c₃ : Cursor} (e₃ : Gives (part table (p .behind) true b (f .generics) (p .from)) os c₂ (placed g c₃)) where
-            -- THE TABLE IS READ
-            pub all-read : Gives whole os c (placed (counted (f .skipped + g .skipped) (p .held a (g .generics))) c₃)
-            all-read = from-back (step _ e₃ (part-tail (p .behind) true (f .generics) (p .from)) done)
+            -- THE TABLE IS READ; each element skipped is a bit at least
+            pub record AllRead : Type 0 where
+              pub is : Gives whole os c (placed (counted (f .skipped + g .skipped) (p .held a (g .generics))) c₃)
+              pub most : f .skipped + g .skipped + c .at ≤ c₃ .at
 
-            pub all-most : f .skipped + g .skipped + c .at ≤ c₃ .at
-            all-most =
-                omega (arith, part-most (p .before) false noGenerics 0 e₁, told (held-tail (p .own) (p .out)) e₂ .on, part-most (p .behind) true (f .generics) (p .from) e₃)
+            pub all-read : AllRead
+            all-read = record {
+              is = from-back (step _ e₃ (part-tail (p .behind) true (f .generics) (p .from)) done);
+              most =
+                  omega (arith, part-most (p .before) false noGenerics 0 e₁, told (held-tail (p .own) (p .out)) e₂ .on, part-most (p .behind) true (f .generics) (p .from) e₃);
+            }

@@ -16,7 +16,7 @@ use Rattle.elements.specs.Numbers.{flagWidth, optionalNumber, u8Of}
 use Rattle.elements.specs.Groups.{addressTypeWidth, addressWidth, Form, formAt, Address, addressOf, typedAddress, uplinkAddress, downlinkAddress, classOfUsageWidth, lifetimeWidth, detachmentWidth, attachment, detachment, attachmentInfo, groupWith, uplinkOf, downlinkOf}
 use Rattle.elements.specs.GroupsLaws.{uplinkAddress-local, downlinkAddress-local, attachmentInfo-local}
 use Rattle.elements.specs.Answers.{u32Of, optionalU8, optionalU32}
-use Rattle.elements.specs.GroupAnswers.{groupAddress, addressRead, attachmentOf}
+use Rattle.elements.specs.GroupAnswers.{addressFrom, groupAddress, addressRead, attachmentOf}
 use Rattle.elements.specs.PlacedOptional.{option-as}
 use Rattle.elements.specs.declared.typed_pdu_fields.OptionalU8.{OptionalU8}
 use Rattle.elements.specs.declared.typed_pdu_fields.OptionalU32.{OptionalU32}
@@ -27,17 +27,6 @@ use Rattle.elements.specs.declared.group_identity_uplink.GroupIdentityUp
 use Rattle.elements.specs.declared.group_identity_downlink.GroupIdentityDownlink.{GroupIdentityDownlink}
 
 -- ## addresses
-
--- an address, as the code holds it, of its parts
-abbrev addressFrom : OptionalU32 → OptionalU32 → OptionalU32 → GroupAddress
-addressFrom g e v = record {
-  gssi = g .value;
-  «address_extension» = e .value;
-  vgssi = v .value;
-  «gssi_present» = g .present;
-  «address_extension_present» = e .present;
-  «vgssi_present» = v .present;
-}
 
 -- the parts of a form as the code reads them, from each of them on
 module _ (f : Form) where

@@ -7,7 +7,7 @@ use mathlib.Core.Option.{none, some}
 use mathlib.Core.List.{List, _++_}
 use lib.ListN.{length, take, drop, set, replicate, length-set}
 use lib.Seq.{length-take-le}
-use lib.Dec.{leb, eqb}
+use lib.Dec.{leb}
 use borrow.Author.Tests.{le-leb, lt-leb, eq-eqb}
 use Rattle.bits.specs.Bits.{Bits}
 use Rattle.bits.specs.PduParseError.{type4Underflow, inconsistentLength}
@@ -19,8 +19,8 @@ use Rattle.bits.specs.PlacedTimes.{alike, exact, inexact, exact-stop, passed, f
 use Rattle.bits.specs.declared.bitbuffer.Cursor.{Cursor}
 use Rattle.elements.specs.Generics.{entriesWidth, entries}
 use Rattle.elements.specs.Numbers.{valueOr}
-use Rattle.elements.specs.Table.{lengthWidth, Look, outside, ends, opens, look, Header, header, slot-if, slot-at, slot}
-use Rattle.elements.specs.TableLaws.{slot-tail}
+use Rattle.elements.specs.Table.{lengthWidth, look, Header, header, slot}
+use Rattle.elements.specs.TableLaws.{two-slots, slot-cases, slot-tail}
 use Rattle.elements.specs.Lists.{Groups, listAs, listOf, groupsAs, list, entriesMost}
 use Rattle.elements.specs.ListsLaws.{Sound, entries-local}
 use Rattle.elements.specs.Rows.{sized}
@@ -108,14 +108,16 @@ there d (got a rest) = refl
 there d (refused n) = refl
 
 -- a front counts no more groups than there is room for
+no-groups : {bs rest : Bits} {f : ListFront} → got noFront bs ≡ got f rest → f .count ≤ entriesMost
+no-groups {f = f} e = let h : noFront ≡ f = cc in rw (← h) (omega arith)
+
 front-few : (i : ℕ) (b : Bool) (bs : Bits) {f : ListFront} {rest : Bits} → listFront i b bs ≡ got f rest → f .count ≤ entriesMost
 unfolding listFront
-front-few i false bs {f} e = let h : noFront ≡ f = cc in rw (← h) (omega arith)
-front-few i true bs {f} {rest} e = go (look bs) e
+front-few i false bs = no-groups
+front-few i true bs {f} {rest} =
+    slot-cases (λ i. i) (λ i. frontAt) i (λ r. then (r bs) (λ o. got (valueOr noFront o)) ≡ got f rest → f .count ≤ entriesMost)
+    (λ e. refused-got e) no-groups (look bs) (λ l. headed (header bs))
   where
-    absent : got noFront bs ≡ got f rest → f .count ≤ entriesMost
-    absent e = let h : noFront ≡ f = cc in rw (← h) (omega arith)
-
     tested : (m n : ℕ) (b : Bool) (mid : Bits) → m < 2 ^ entriesWidth → then (unless b type4Underflow mid) (λ z. frontOf m n) ≡ got f rest
         → f .count ≤ entriesMost
     tested m n true mid l e = let h : m ≡ f .count = cc in omega arith
@@ -126,15 +128,6 @@ front-few i true bs {f} {rest} e = go (look bs) e
         split-then (field entriesWidth mid) _ (sym (there noFront (frontAt (h .size) mid)) ∙ e) (λ m end p q.
         tested m (h .size - entriesWidth) (leb entriesWidth (h .size)) end (field-lt entriesWidth mid p) q)
     headed (refused n) e = refused-got e
-
-    own : (b : Bool) → then (slot-if (λ i. i) (λ i. frontAt) i b bs) (λ o. got (valueOr noFront o)) ≡ got f rest → f .count ≤ entriesMost
-    own true e = headed (header bs) e
-    own false e = absent e
-
-    go : (l : Look) → then (slot-at (λ i. i) (λ i. frontAt) i l bs) (λ o. got (valueOr noFront o)) ≡ got f rest → f .count ≤ entriesMost
-    go outside e = refused-got e
-    go ends e = absent e
-    go (opens j) e = own (eqb j i) e
 
 front-tail : (i : ℕ) (b : Bool) → Tail (listFront i b)
 unfolding listFront
@@ -159,18 +152,10 @@ module _ {G L : Type 0} (k : Groups G L) (i : ℕ) where
 
   slot-behind : (b : Bool) (bs : Bits) → nestedSlotIf k i b bs ≡ (listFront i b >>= behindFront k) bs
   unfolding nestedSlot listFront
-  slot-behind true bs = go (look bs)
-    where
-      own : (b : Bool) → then (slot-if (λ i. i) (λ i. list k) i b bs) (λ o. got (valueOr (listOf k none) o))
-          ≡ then (then (slot-if (λ i. i) (λ i. frontAt) i b bs) (λ o. got (valueOr noFront o))) (behindFront k)
-      own true = groups-behind (header bs)
-      own false = sym (none-behind bs)
-
-      go : (l : Look) → then (slot-at (λ i. i) (λ i. list k) i l bs) (λ o. got (valueOr (listOf k none) o))
-          ≡ then (then (slot-at (λ i. i) (λ i. frontAt) i l bs) (λ o. got (valueOr noFront o))) (behindFront k)
-      go outside = refl
-      go ends = sym (none-behind bs)
-      go (opens j) = own (eqb j i)
+  slot-behind true bs =
+      two-slots (λ i. i) (λ i. list k) i (λ i. i) (λ i. frontAt) i refl
+      (λ r q. then (r bs) (λ o. got (valueOr (listOf k none) o)) ≡ then (then (q bs) (λ o. got (valueOr noFront o))) (behindFront k))
+      refl (sym (none-behind bs)) (look bs) (λ l. groups-behind (header bs))
   slot-behind false bs = sym (none-behind bs)
 
   module _ (b : Bool) {os : List ℕ} {c : Cursor} where

@@ -15,8 +15,8 @@ use Rattle.bits.specs.PlacedLaws.{Gives, told, step, stop, done}
 use Rattle.bits.specs.PlacedTimes.{alike, exact, inexact, exact-stop}
 use Rattle.bits.specs.declared.bitbuffer.Cursor.{Cursor}
 use Rattle.elements.specs.Numbers.{flagWidth, valueOr}
-use Rattle.elements.specs.Table.{lengthWidth, Look, outside, ends, opens, look, Header, header, counted, closing, slot-if, slot-at, slot, scan}
-use Rattle.elements.specs.TableLaws.{closing-local, slot-tail}
+use Rattle.elements.specs.Table.{lengthWidth, look, Header, header, counted, closing, slot, scan}
+use Rattle.elements.specs.TableLaws.{two-slots, closing-local, slot-tail}
 use Rattle.elements.specs.Lists.{Groups, list, listOf, downlinks}
 use Rattle.elements.specs.ListsLaws.{Sound, list-local}
 use Rattle.elements.specs.Locations.{nested-if, nested}
@@ -100,7 +100,10 @@ module _ {G L D : Type 0} {k : Groups G L} (s : Sound k) (i : ℕ) (of : L → D
 
 pub downlinks-slot : (i : ℕ) → downlinksSlot i ≡ nestedSlot downlinks i
 unfolding downlinksSlot nestedSlot contentOf
-downlinks-slot i = λ j bs. go bs (look bs) j
+downlinks-slot i = λ j bs.
+    two-slots identifierOf content (row i ofDownlinks) (λ i. i) (λ i. list downlinks) i refl
+    (λ r q. then (r bs) (λ o. got (heldElement o .downlinks)) ≡ then (q bs) (λ o. got (valueOr (listOf downlinks none) o)))
+    refl refl (look bs) (λ l. with-header (header bs)) j
   where
     there : (y : Answer OptionalDownlinks)
         → then (then (then y (λ l. got (isDownlinks l))) (λ e. got (some e))) (λ o. got (heldElement o .downlinks))
@@ -113,17 +116,6 @@ downlinks-slot i = λ j bs. go bs (look bs) j
         ≡ then (then (then y (λ h. list downlinks (h .size))) (λ l. got (some l))) (λ o. got (valueOr (listOf downlinks none) o))
     with-header (got h rest) = there (list downlinks (h .size) rest)
     with-header (refused n) = refl
-
-    own : (bs : Bits) (b : Bool) → then (slot-if identifierOf content (row i ofDownlinks) b bs) (λ o. got (heldElement o .downlinks))
-        ≡ then (slot-if (λ i. i) (λ i. list downlinks) i b bs) (λ o. got (valueOr (listOf downlinks none) o))
-    own bs true = with-header (header bs)
-    own bs false = refl
-
-    go : (bs : Bits) (l : Look) → then (slot-at identifierOf content (row i ofDownlinks) l bs) (λ o. got (heldElement o .downlinks))
-        ≡ then (slot-at (λ i. i) (λ i. list downlinks) i l bs) (λ o. got (valueOr (listOf downlinks none) o))
-    go bs outside = refl
-    go bs ends = refl
-    go bs (opens j) = own bs (eqb j i)
 
 -- ## a slot of a message's table: its content is what r gives, made into an element
 

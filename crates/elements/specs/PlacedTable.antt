@@ -12,8 +12,8 @@ use lib.Dec.{leb, eqb}
 use borrow.Author.Tests.{eq-eqb, ne-eqb}
 use Rattle.bits.specs.PduParseError.{bufferEnded}
 use Rattle.bits.specs.Bits.{Bits, number}
-use Rattle.bits.specs.Reader.{Answer, got, refused, Reader, then, _>>=_, field, pass, Local, Tail}
-use Rattle.bits.specs.ReaderLaws.{then-then, then-same, local·rules, bind-tail, split-then, got-refused, field-got, field-lt}
+use Rattle.bits.specs.Reader.{Answer, got, refused, Reader, then, _>>=_, field, pass, Tail}
+use Rattle.bits.specs.ReaderLaws.{zero-one, then-then, then-same, local·rules, bind-tail, split-then, got-refused, field-got, field-lt}
 use Rattle.bits.specs.Placed.{window, Placed, placed, halted, place, at}
 use Rattle.bits.specs.PlacedLaws.{Gives, told, told-not, gives-not, step, stop, done}
 use Rattle.bits.specs.PlacedTimes.{alike}
@@ -66,7 +66,7 @@ opened bs {o} {rest} e = split-then (field flagWidth bs) _ (sym (type2-through u
         let s : mid ≡ rest = cc in
         rw (← h, ← s) (record {
           looks = rw p;
-          heads = λ t. let z : _≡_ {A = ℕ} 0 1 = cc in absurd (omega arith);
+          heads = λ t. zero-one (cc);
           less = shorter zero mid p;
         })
     go (suc zero) mid p l q = split-then (field identifierWidth mid) _ q (λ i end p′ q′.
@@ -224,20 +224,19 @@ module _ (listed : ℕ → Bool) where
   pieces-most [] bs rest e = let h = pieces-got listed bs e .1 in omega (arith, ap length h)
   pieces-most (p ∷ ps) bs rest e = let m = pieces-got listed bs e in omega (arith, pieces-most ps (m .mid) rest (m .others), stands-shrinks (m .stands))
 
-module _ {S A : Type 0} (identifier : S → ℕ) (content : S → ℕ → Reader A) (local : (s : S) (n : ℕ) → Local (content s n)) (listed : ℕ → Bool) where
-  pub skip-fewer : (b : Bool) (bs : Bits) {m : ℕ} {rest : Bits} → skip identifier content listed b bs ≡ got m rest → m + length rest ≤ length bs
+  pub skip-fewer : (b : Bool) (bs : Bits) {m : ℕ} {rest : Bits} → skip listed b bs ≡ got m rest → m + length rest ≤ length bs
   skip-fewer true bs {m} {rest} e = split-then (pieces listed bs) _ e (λ ps mid p q.
       let all : length ps ≡ m = cc in
       let same : mid ≡ rest = cc in
-      omega (arith, pieces-most listed ps bs rest (rw same at p)))
+      omega (arith, pieces-most ps bs rest (rw same at p)))
   skip-fewer false bs {m} {rest} e =
       let nothing : 0 ≡ m = cc in
       let same : bs ≡ rest = cc in
       omega (arith, ap length same)
 
-  pub skip-most : (b : Bool) {os : List ℕ} {c k : Cursor} {m : ℕ} → Gives (skip identifier content listed b) os c (placed m k) → m + c .at ≤ k .at
+  pub skip-most : (b : Bool) {os : List ℕ} {c k : Cursor} {m : ℕ} → Gives (skip listed b) os c (placed m k) → m + c .at ≤ k .at
   skip-most b {os} {c} {k} {m} e =
-      let t = told (skip-tail identifier content local listed b) e in
+      let t = told (skip-tail listed b) e in
       omega (arith, skip-fewer b (window os c) (t .said), t .used)
 
 -- ## generic slots, one at a turn
@@ -263,7 +262,7 @@ module _ (table : List Slot) (b : Bool) where
   resumed-start gs i rs bs = then-same (generics table rs b bs) (λ x rest. let h : 0 + x .skipped ≡ x .skipped = omega arith in rw h)
 
   pub skipping-tail : Tail (skipping table b)
-  skipping-tail = skip-tail identifierOf content content-local (isListed identifierOf table) b
+  skipping-tail = skip-tail (isListed identifierOf table) b
 
   module _ (gs : List Generic) (i n : ℕ) (r : Row) (rs : List Row) where
     -- one slot, whose value goes into the array, and the others

@@ -38,7 +38,7 @@ slotsFrom t from to = take (min to 8 - from) (drop from (t .rows))
 
 -- the unlisted elements that stand here, if they are skipped
 abbrev pub skipping : List Slot → Bool → Reader ℕ
-skipping table = skip identifierOf content (isListed identifierOf table)
+skipping table = skip (isListed identifierOf table)
 
 -- the end of a table
 abbrev pub tableEnd : List Slot → Bool → Reader ℕ
@@ -52,10 +52,10 @@ emptyTable false = got tt
 -- ## generic slots
 
 abbrev pub fromType3 : OptionalType3 → Generic
-fromType3 o = record { present = o .present; len = o .value .len; elems = 0; «data» = o .value .«data» }
+fromType3 o = record { present = o .present; len = o .value .len; padding = 0; elems = 0; «data» = o .value .«data» }
 
 abbrev pub fromType4 : OptionalType4 → Generic
-fromType4 o = record { present = o .present; len = o .value .len; elems = o .value .elems; «data» = o .value .«data» }
+fromType4 o = record { present = o .present; len = o .value .len; padding = 0; elems = o .value .elems; «data» = o .value .«data» }
 
 -- and back
 abbrev pub type3From : Generic → OptionalType3
@@ -94,7 +94,7 @@ generics table (r ∷ rs) b = skipping table b >>= λ n. genericSlot r >>= λ g.
 -- ## a part of a table
 
 abbrev pub noGeneric : Generic
-noGeneric = record { present = false; len = 0; elems = 0; «data» = 0 }
+noGeneric = record { present = false; len = 0; padding = 0; elems = 0; «data» = 0 }
 
 -- no slot read yet
 abbrev pub noGenerics : List Generic

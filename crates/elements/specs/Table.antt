@@ -134,6 +134,11 @@ pub record Counted (A : Type 0) : Type 0 where
 abbrev pub counted : {A : Type 0} → ℕ → A → Counted A
 counted n a = record { skipped = n; value = a }
 
+-- the unlisted elements that stand here: how many the skipping reading passes; the strict one passes none
+abbrev pub skip : (ℕ → Bool) → Bool → Reader ℕ
+skip listed true bs = then (pieces listed bs) (λ ps. got (length ps))
+skip listed false bs = got 0 bs
+
 module _ {S : Type 0} (identifier : S → ℕ) where
   -- whether a table has the identifier
   unfoldable pub isListed : List S → ℕ → Bool
@@ -158,15 +163,10 @@ module _ {S A : Type 0} (identifier : S → ℕ) (content : S → ℕ → Reader
   slot s bs = slot-at s (look bs) bs
 
   module _ (listed : ℕ → Bool) where
-    -- the unlisted elements that stand here: how many the skipping reading passes; the strict one passes none
-    abbrev pub skip : Bool → Reader ℕ
-    skip true bs = then (pieces listed bs) (λ ps. got (length ps))
-    skip false bs = got 0 bs
-
     -- THE TWO READINGS of slots: skipping if the test holds, else strict
     unfoldable pub scan : Bool → List S → Reader (Counted (List (Option A)))
-    scan skipping [] = skip skipping >>= λ n. closing >>= λ z. got (counted n [])
-    scan skipping (s ∷ ss) = skip skipping >>= λ n. slot s >>= λ a. scan skipping ss >>= λ x. got (counted (n + x .skipped) (a ∷ x .value))
+    scan skipping [] = skip listed skipping >>= λ n. closing >>= λ z. got (counted n [])
+    scan skipping (s ∷ ss) = skip listed skipping >>= λ n. slot s >>= λ a. scan skipping ss >>= λ x. got (counted (n + x .skipped) (a ∷ x .value))
 
   -- the whole table, in order; those are listed whose identifier it has
   abbrev pub scanTable : Bool → List S → Reader (Counted (List (Option A)))

@@ -1,28 +1,28 @@
 -- Laws of the look, of one element, of elements one after the other, and of the two readings of a table.
 use Prim.Native.Nat.{ℕ, zero, suc, _+_, _-_, _<_}
 use native.Mathlib.Omega.{arith}
-use mathlib.Core.Path.{_≡_, refl, sym, ap, _∙_}
+use mathlib.Core.Path.{_≡_, refl, sym, ap, subst, _∙_}
 use mathlib.Core.Bool.{Bool, true, false, cond, or-true}
 use mathlib.Core.Option.{Option, none, some}
 use mathlib.Core.List.{List, [], _∷_, _++_, map, append-nil}
 use lib.ListN.{length, length-append}
 use lib.Dec.{eqb}
 use lib.Seq.{take-at}
-use borrow.Author.Tests.{eq-eqb}
+use borrow.Author.Tests.{eq-eqb, eqb-true}
 use Rattle.bits.specs.PduParseError.{bufferEnded, invalidTrailingMbitValue}
 use Rattle.bits.specs.Bits.{Bits}
 use Rattle.bits.specs.Reader.{Answer, got, refused, Reader, then, _>>=_, field, pass, unless, Used, Local, Tail}
-use Rattle.bits.specs.ReaderLaws.{refused-got, split-then, local-more, local·rules, field-local, got-local, refused-local, bind-local, bind-tail}
+use Rattle.bits.specs.ReaderLaws.{zero-one, refused-got, split-then, local-more, local·rules, field-local, got-local, refused-local, bind-local, bind-tail}
 use Rattle.elements.specs.Table.{mbitWidth, identifierWidth, lengthWidth, Look, outside, ends, opens, seen, looked, look, Header, header, closing, usedOf, whole, Piece, piece, next-if, next-at, next, onward, manyOf, many, pieces, Counted, counted, element, slot-if, slot-at, slot, skip, isListed, scan}
 
 ends-outside : {P : Type 0} → ends ≡ outside → P
-ends-outside e = let z : _≡_ {A = ℕ} 0 1 = cc in absurd (omega arith)
+ends-outside e = zero-one (cc)
 
 opens-outside : {P : Type 0} {i : ℕ} → opens i ≡ outside → P
-opens-outside e = let z : _≡_ {A = ℕ} 0 1 = cc in absurd (omega arith)
+opens-outside e = zero-one (cc)
 
 ends-opens : {P : Type 0} {i : ℕ} → ends ≡ opens i → P
-ends-opens e = let z : _≡_ {A = ℕ} 0 1 = cc in absurd (omega arith)
+ends-opens e = zero-one (cc)
 
 -- ## the look
 
@@ -83,6 +83,45 @@ bind-sees r f s l = record {
 
 refused-sees : {A : Type 0} (n : ℕ) → Sees {A = A} (λ bs. refused n)
 refused-sees n = record { local = refused-local n; inside = λ bs a rest e. refused-got e }
+
+-- ## by what the look sees
+
+-- TWO SLOTS with one identifier: what holds outside, of absent elements and, where the identifier is seen, of those that are there, holds of both
+pub two-slots : {S A T B : Type 0} (identifier : S → ℕ) (content : S → ℕ → Reader A) (s : S) (identifier′ : T → ℕ) (content′ : T → ℕ → Reader B) (t : T)
+    → identifier s ≡ identifier′ t → (R : Reader (Option A) → Reader (Option B) → Type 0)
+    → R (λ bs. refused bufferEnded) (λ bs. refused bufferEnded) → R (got none) (got none) → (l : Look)
+    → (l ≡ opens (identifier s) → R (slot-if identifier content s true) (slot-if identifier′ content′ t true))
+    → R (slot-at identifier content s l) (slot-at identifier′ content′ t l)
+two-slots identifier content s identifier′ content′ t same R out absent outside there = out
+two-slots identifier content s identifier′ content′ t same R out absent ends there = absent
+two-slots identifier content s identifier′ content′ t same R out absent (opens j) there =
+    subst (λ (i : ℕ). R (slot-if identifier content s (eqb j (identifier s))) (slot-if identifier′ content′ t (eqb j i))) same (test (eqb j (identifier s)) refl)
+  where
+    test : (b : Bool) → eqb j (identifier s) ≡ b → R (slot-if identifier content s b) (slot-if identifier′ content′ t b)
+    test true e = there (ap opens (eqb-true j (identifier s) e))
+    test false e = absent
+
+-- one slot
+pub slot-cases : {S A : Type 0} (identifier : S → ℕ) (content : S → ℕ → Reader A) (s : S) (P : Reader (Option A) → Type 0)
+    → P (λ bs. refused bufferEnded) → P (got none) → (l : Look) → (l ≡ opens (identifier s) → P (slot-if identifier content s true)) → P (slot-at identifier content s l)
+slot-cases identifier content s P = two-slots identifier content s identifier content s refl (λ r q. P r)
+
+module _ (stop : ℕ → Bool) where
+  -- HALTS: M-bit 0, or an identifier at which to stop
+  pub data Halts (l : Look) : Type 0 where
+    at-end : l ≡ ends → Halts l
+    at-stop : (i : ℕ) → l ≡ opens i → stop i ≡ true → Halts l
+
+  -- the next element
+  pub next-cases : (P : Reader (Option Piece) → Type 0) → P (λ bs. refused bufferEnded) → (l : Look) → (Halts l → P (got none))
+      → ((i : ℕ) → l ≡ opens i → stop i ≡ false → P (next-if false)) → P (next-at stop l)
+  next-cases P out outside halts on = out
+  next-cases P out ends halts on = halts (at-end refl)
+  next-cases P out (opens i) halts on = test (stop i) refl
+    where
+      test : (b : Bool) → stop i ≡ b → P (next-if b)
+      test true t = halts (at-stop i refl t)
+      test false t = on i refl t
 
 -- ## one element
 
@@ -249,40 +288,26 @@ module _ {A : Type 0} (r : Reader (Option A)) where
   many-tail t = record { at = λ bs. manyOf-tail t (suc (length bs)) .at bs }
 
 module _ (stop : ℕ → Bool) where
-  -- HALTS: M-bit 0, or an identifier at which to stop
-  pub data Halts (l : Look) : Type 0 where
-    at-end : l ≡ ends → Halts l
-    at-stop : (i : ℕ) → l ≡ opens i → stop i ≡ true → Halts l
-
   abbrev NextGot : Bits → Option Piece → Bits → Type 0
-  NextGot bs none rest = Halts (look bs) × (rest ≡ bs)
+  NextGot bs none rest = Halts stop (look bs) × (rest ≡ bs)
   NextGot bs (some p) rest = Stands bs p rest × (stop (p .identifier) ≡ false)
 
   next-got : (bs : Bits) {o : Option Piece} {rest : Bits} → next stop bs ≡ got o rest → NextGot bs o rest
-  next-got bs {o} {rest} e = at (look bs) refl e
-    where
-      halted : Halts (look bs) → got none bs ≡ got o rest → NextGot bs o rest
-      halted h e = let n : none ≡ o = cc in rw (← n) (h, cc)
-
-      at : (l : Look) → look bs ≡ l → next-at stop l bs ≡ got o rest → NextGot bs o rest
-      at outside l e = refused-got e
-      at ends l e = halted (at-end l) e
-      at (opens i) l e = test (stop i) refl e
-        where
-          test : (b : Bool) → stop i ≡ b → next-if b bs ≡ got o rest → NextGot bs o rest
-          test true t e = halted (at-stop i l t) e
-          test false t e = split-then (piece bs) _ e (λ p m x y.
-              let n : some p ≡ o = cc in
-              let h : m ≡ rest = cc in
-              let g = piece-stands bs l (rw h at x) in
-              rw (← n) (g .0, rw (← g .1) t))
+  next-got bs {o} {rest} =
+      next-cases stop (λ r. r bs ≡ got o rest → NextGot bs o rest) (λ e. refused-got e) (look bs)
+      (λ h e. let n : none ≡ o = cc in rw (← n) (h, cc))
+      (λ i l t e. split-then (piece bs) _ e (λ p m x y.
+      let n : some p ≡ o = cc in
+      let h : m ≡ rest = cc in
+      let g = piece-stands bs l (rw h at x) in
+      rw (← n) (g .0, rw (← g .1) t)))
 
   -- ONE TURN
   pub pieces-unfold : (bs : Bits) → pieces stop bs ≡ onward (next stop bs) (pieces stop)
   unfolding pieces
   pieces-unfold = many-unfold (next stop) (λ bs p rest e. stands-shrinks (next-got bs e .0))
 
-  pub pieces-halts : (bs : Bits) → Halts (look bs) → pieces stop bs ≡ got [] bs
+  pub pieces-halts : (bs : Bits) → Halts stop (look bs) → pieces stop bs ≡ got [] bs
   pieces-halts bs (at-end l) = pieces-unfold bs ∙ rw l
   pieces-halts bs (at-stop i l t) = pieces-unfold bs ∙ rw l (rw t)
 
@@ -300,7 +325,7 @@ module _ (stop : ℕ → Bool) where
     pub others : pieces stop mid ≡ got ps rest
 
   abbrev pub PiecesGot : Bits → List Piece → Bits → Type 0
-  PiecesGot bs [] rest = Halts (look bs) × (rest ≡ bs)
+  PiecesGot bs [] rest = Halts stop (look bs) × (rest ≡ bs)
   PiecesGot bs (p ∷ ps) rest = More bs p ps rest
 
   pub pieces-got : (bs : Bits) {ps : List Piece} {rest : Bits} → pieces stop bs ≡ got ps rest → PiecesGot bs ps rest
@@ -320,16 +345,13 @@ module _ (stop : ℕ → Bool) where
 
   pieces-tail : Tail (pieces stop)
   unfolding pieces
-  pieces-tail = many-tail (next stop) (look-tail (next-at stop) at)
-    where
-      test : (b : Bool) → Tail (next-if b)
-      test true = search local·rules
-      test false = bind-tail piece _ piece-tail (λ p. search local·rules)
+  pieces-tail =
+      many-tail (next stop) (look-tail (next-at stop) (λ l.
+      next-cases stop Tail (search local·rules) l (λ h. search local·rules) (λ i e t. bind-tail piece _ piece-tail (λ p. search local·rules))))
 
-      at : (l : Look) → Tail (next-at stop l)
-      at outside = search local·rules
-      at ends = search local·rules
-      at (opens i) = test (stop i)
+  pub skip-tail : (b : Bool) → Tail (skip stop b)
+  skip-tail true = bind-tail (pieces stop) _ pieces-tail (λ ps. search local·rules)
+  skip-tail false = search local·rules
 
 -- ## the two readings of a table
 
@@ -362,7 +384,7 @@ module _ {S A : Type 0} (identifier : S → ℕ) (content : S → ℕ → Reader
       l : look bs ≡ ends
       l = closing-ends bs e
 
-      skipped : (b : Bool) → skip identifier content listed b bs ≡ got 0 bs
+      skipped : (b : Bool) → skip listed b bs ≡ got 0 bs
       skipped true = rw (pieces-halts listed bs (at-end l))
       skipped false = refl
 
@@ -386,35 +408,24 @@ module _ {S A : Type 0} (P : S → A → Type 0) where
 module _ {S A : Type 0} (identifier : S → ℕ) (content : S → ℕ → Reader A) {P : S → A → Type 0}
     (holds : (s : S) (n : ℕ) (bs : Bits) (a : A) (rest : Bits) → content s n bs ≡ got a rest → P s a) where
   slot-holds : (s : S) (bs : Bits) {o : Option A} {rest : Bits} → slot identifier content s bs ≡ got o rest → InSlot P s o
-  slot-holds s bs {o} {rest} e = at (look bs) e
-    where
-      absent : got none bs ≡ got o rest → InSlot P s o
-      absent e = let n : none ≡ o = cc in rw (← n) tt
-
-      test : (b : Bool) → slot-if identifier content s b bs ≡ got o rest → InSlot P s o
-      test true e =
-          split-then (element identifier content s bs) _ e (λ a r p q.
-          split-then (header bs) _ p (λ h r′ p′ q′.
-          let n : some a ≡ o = cc in
-          rw (← n) (holds s (h .size) r′ a r q′)))
-      test false e = absent e
-
-      at : (l : Look) → slot-at identifier content s l bs ≡ got o rest → InSlot P s o
-      at outside e = refused-got e
-      at ends e = absent e
-      at (opens i) e = test (eqb i (identifier s)) e
+  slot-holds s bs {o} {rest} =
+      slot-cases identifier content s (λ r. r bs ≡ got o rest → InSlot P s o) (λ e. refused-got e) (λ e. let n : none ≡ o = cc in rw (← n) tt) (look bs) (λ l e.
+      split-then (element identifier content s bs) _ e (λ a r p q.
+      split-then (header bs) _ p (λ h r′ p′ q′.
+      let n : some a ≡ o = cc in
+      rw (← n) (holds s (h .size) r′ a r q′))))
 
   -- IN BOTH READINGS it holds of each value of the table
   pub scan-all : (listed : ℕ → Bool) (b : Bool) (ss : List S) (bs : Bits) {x : Counted (List (Option A))} {rest : Bits}
       → scan identifier content listed b ss bs ≡ got x rest → AllSlots P ss (x .value)
   unfolding scan
   scan-all listed b [] bs {x} e =
-      split-then (skip identifier content listed b bs) _ e (λ n r₁ p₁ q₁.
+      split-then (skip listed b bs) _ e (λ n r₁ p₁ q₁.
       split-then (closing r₁) _ q₁ (λ z r₂ p₂ q₂.
       let g : counted n [] ≡ x = cc in
       rw (← g) slots-end))
   scan-all listed b (s ∷ ss) bs {x} e =
-      split-then (skip identifier content listed b bs) _ e (λ n r₁ p₁ q₁.
+      split-then (skip listed b bs) _ e (λ n r₁ p₁ q₁.
       split-then (slot identifier content s r₁) _ q₁ (λ v r₂ p₂ q₂.
       split-then (scan identifier content listed b ss r₂) _ q₂ (λ y r₃ p₃ q₃.
       let g : counted (n + y .skipped) (v ∷ y .value) ≡ x = cc in
@@ -429,40 +440,23 @@ module _ {S A : Type 0} (identifier : S → ℕ) (content : S → ℕ → Reader
 
   -- a slot looks further than it uses where its element is absent, but no further than what comes behind it
   slot-sees : {B : Type 0} (s : S) (f : Option A → Reader B) → ((o : Option A) → Sees (f o)) → Sees (slot identifier content s >>= f)
-  slot-sees s f sf = look-sees (λ l. slot-at identifier content s l >>= f) at
-    where
-      test : (b : Bool) → Sees (slot-if identifier content s b >>= f)
-      test true = bind-sees (slot-if identifier content s true) f (bind-sees (element identifier content s) _ (element-sees s) (λ a. got-local (some a))) (λ o. sf o .local)
-      test false = sf none
-
-      at : (l : Look) → Sees (slot-at identifier content s l >>= f)
-      at outside = refused-sees bufferEnded
-      at ends = sf none
-      at (opens i) = test (eqb i (identifier s))
+  slot-sees s f sf =
+      look-sees (λ l. slot-at identifier content s l >>= f) (λ l.
+      slot-cases identifier content s (λ r. Sees (r >>= f)) (refused-sees bufferEnded) (sf none) l (λ e.
+      bind-sees (slot-if identifier content s true) f (bind-sees (element identifier content s) _ (element-sees s) (λ a. got-local (some a))) (λ o. sf o .local)))
 
   pub slot-tail : (s : S) → Tail (slot identifier content s)
-  slot-tail s = look-tail (slot-at identifier content s) at
-    where
-      test : (b : Bool) → Tail (slot-if identifier content s b)
-      test true = search (local·rules, element-local)
-      test false = search local·rules
-
-      at : (l : Look) → Tail (slot-at identifier content s l)
-      at outside = search local·rules
-      at ends = search local·rules
-      at (opens i) = test (eqb i (identifier s))
+  slot-tail s =
+      look-tail (slot-at identifier content s) (λ l.
+      slot-cases identifier content s Tail (search local·rules) (search local·rules) l (λ e. search (local·rules, element-local)))
 
   module _ (listed : ℕ → Bool) where
-    pub skip-tail : (b : Bool) → Tail (skip identifier content listed b)
-    skip-tail true = bind-tail (pieces listed) _ (pieces-tail listed) (λ ps. search local·rules)
-    skip-tail false = search local·rules
-
     -- BOTH READINGS leave an end of the bits
     pub scan-tail : (b : Bool) (ss : List S) → Tail (scan identifier content listed b ss)
     unfolding scan
-    scan-tail b [] = bind-tail (skip identifier content listed b) _ (skip-tail b) (λ n. search (local·rules, closing-local))
+    scan-tail b [] = bind-tail (skip listed b) _ (skip-tail listed b) (λ n. search (local·rules, closing-local))
     scan-tail b (s ∷ ss) =
-        bind-tail (skip identifier content listed b) _ (skip-tail b) (λ n.
+        bind-tail (skip listed b) _ (skip-tail listed b) (λ n.
         bind-tail (slot identifier content s) _ (slot-tail s) (λ a.
         bind-tail (scan identifier content listed b ss) _ (scan-tail b ss) (λ x. search local·rules)))
 

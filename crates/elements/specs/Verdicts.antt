@@ -1,9 +1,9 @@
 -- The code's answers, made of what a reader gives; and what the verdict tells of an answer that holds it beside the value.
 use Prim.Native.Nat.{ℕ}
-use native.Mathlib.Omega.{arith}
 use mathlib.Core.Path.{_≡_, refl, sym, ap, _∙_}
 use mathlib.Core.List.{List}
 use Rattle.bits.specs.Reader.{Reader}
+use Rattle.bits.specs.ReaderLaws.{zero-one}
 use Rattle.bits.specs.Placed.{Placed, placed, halted, at, asMoved, refusal}
 use Rattle.bits.specs.PlacedLaws.{Gives}
 use Rattle.bits.specs.declared.bitbuffer.Cursor.{Cursor}
@@ -28,7 +28,7 @@ pub record Beside {A X : Type 0} (f : Placed A → X) (verdict : X → Moved) (v
   pub not : (n : ℕ) → verdict (f (halted n)) ≡ M.Refused n
 
 to-refused : {B : Type 0} {k : Cursor} {n : ℕ} → M.To k ≡ M.Refused n → B
-to-refused e = let z : _≡_ {A = ℕ} 0 1 = cc in absurd (omega arith)
+to-refused e = zero-one (cc)
 
 -- a refused verdict, by the number that its method gives
 pub numbered : {v : Moved} {k n : ℕ} → v ≡ M.Refused k → n ≡ refusal (asMoved v) → v ≡ M.Refused n

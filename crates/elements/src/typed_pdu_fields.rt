@@ -251,10 +251,12 @@ pub struct OptionalType4 {
     pub value: Type4FieldGeneric,
 }
 
-// A generic element of either type, while a table is read: small, since a table's slots are copied as one block.
+// A generic element of either type, while a table is read: small, since a table's slots are copied as one block, and without
+// padding of its own: `padding` is 0 and fills it to 16 octets.
 pub struct Generic {
     pub data: u64,
     pub len: u32,
+    pub padding: u16,
     pub elems: u8,
     pub present: bool,
 }
@@ -267,6 +269,7 @@ pub struct GenericRead {
 pub const ABSENT: Generic = Generic {
     present: false,
     len: 0,
+    padding: 0,
     elems: 0,
     data: 0,
 };
@@ -344,6 +347,7 @@ pub fn parse_type3_generic(c: Cursor, octets: &[u8]) -> GenericRead
         element: Generic {
             present: true,
             len: len,
+            padding: 0,
             elems: 0,
             data: data,
         },
@@ -387,6 +391,7 @@ pub fn parse_type4_generic(c: Cursor, octets: &[u8]) -> GenericRead
         element: Generic {
             present: true,
             len: n,
+            padding: 0,
             elems: elems,
             data: data,
         },

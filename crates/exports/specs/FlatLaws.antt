@@ -1,15 +1,15 @@
 -- Octets put one part after the other.
-use Prim.Native.Nat.{ℕ, zero, suc, _+_, _-_, _*_, _/_, _%_, _^_, _≤_, _<_, min}
+use Prim.Native.Nat.{ℕ, suc, _+_, _*_, _≤_, _<_, min}
 use native.Mathlib.Nat.{mul-zero, mul-suc, add-comm}
 use native.Mathlib.Omega.{arith}
 use mathlib.Core.Path.{_≡_, refl, sym, ap, _∙_}
 use mathlib.Core.Bool.{Bool, true, false, cond}
 use mathlib.Core.List.{List, [], _∷_, _++_, append-nil}
-use lib.ListN.{length, length-append, length-take, set, take, getD}
-use lib.Seq.{sets, length-sets}
+use lib.ListN.{length, length-append, length-take, set, take, drop, getD}
+use lib.Seq.{sets, length-sets, drop-cons}
 use Rattle.elements.specs.Lists.{each}
 use Rattle.elements.specs.EachLaws.{each-more, take-most}
-use Rattle.exports.specs.Flat.{highFirst, shown}
+use Rattle.exports.specs.Flat.{shown}
 
 -- the octets xs are put into f from `at` on, which makes g; `to` is the place behind them
 pub record Put (f : List ℕ) (at : ℕ) (xs : List ℕ) (g : List ℕ) (to : ℕ) : Type 0 where
@@ -30,15 +30,13 @@ _⨟_ {f} {g} {h} {at} {to} {end} {xs} {ys} p q = put
     (q .octets ∙ ap (λ (k : ℕ). sets g k ys) (p .next) ∙ ap (λ (l : List ℕ). sets l (at + length xs) ys) (p .octets) ∙ sets-sets f at xs ys)
     (q .next ∙ (omega (arith, p .next, length-append xs ys)))
 
--- a number of which n octets are left: the first of them, and the others
-pub number-turn : (f : List ℕ) (at v n : ℕ) → 0 < n → n ≤ 8
-    → sets f (at + (8 - n)) (highFirst n v) ≡ sets (set f (at + (7 - (n - 1))) (v / 2 ^ (8 * (n - 1)) % 256)) (at + (8 - (n - 1))) (highFirst (n - 1) v)
-number-turn f at v zero p q = absurd (omega arith)
-number-turn f at v (suc k) p q =
-    let less : suc k - 1 ≡ k = omega arith in
-    let here : 8 - suc k ≡ 7 - k = omega arith in
-    let next : at + (8 - k) ≡ suc (at + (7 - k)) = omega arith in
-    rw (less, here, next)
+-- octets of which i are put: the next of them, and the others
+pub octet-turn : (f : List ℕ) (at : ℕ) (xs : List ℕ) (i d : ℕ) → i < length xs
+    → sets f (at + i) (drop i xs) ≡ sets (set f (at + i) (getD xs i d)) (at + (i + 1)) (drop (i + 1) xs)
+octet-turn f at xs i d l =
+    let more : i + 1 ≡ suc i = omega arith in
+    let next : at + suc i ≡ suc (at + i) = omega arith in
+    rw (more, next, drop-cons xs i d l)
 
 -- ## things one after the other
 

@@ -19,6 +19,7 @@ use Rattle.elements.specs.Table.{Counted}
 use Rattle.elements.specs.declared.typed_pdu_fields.Skipped.{Skipped}
 use Rattle.elements.specs.declared.typed_pdu_fields.Skipped.the-variants as S
 use Rattle.messages.specs.Calls.{Message, demand, accept, attachDetach, messageOf, goodCall, windowOf, readMessage, readingOf, noReading, reading}
+use Rattle.messages.specs.MessageLaws.{FullList}
 use Rattle.messages.specs.PlacedCalls.{accepted, called, Own, taken, not-taken, good-call, bad-call, good-window}
 use Rattle.messages.specs.declared.Record.{Record}
 use Rattle.messages.specs.declared.Reading.{Reading}
@@ -33,19 +34,14 @@ formLength demand g = 371 + 46 * g
 formLength accept g = 245 + 56 * g
 formLength attachDetach g = 108 + 56 * g
 
--- that number, and the places of the record's array
+-- that number
 abbrev shownIn : Message → Record → ℕ
 shownIn demand r = shownUplinks (r .demand .«group_identity_location_demand»)
 shownIn accept r = shownDownlinks (r .accept .«group_identity_location_accept»)
 shownIn attachDetach r = shown (r .«attach_detach» .«group_identity_downlink» .present) (r .«attach_detach» .«group_identity_downlink» .count)
 
-abbrev places : Message → Record → ℕ
-places demand r = length (r .demand .«group_identity_location_demand» .value .«group_identity_uplink» .groups)
-places accept r = length (r .accept .«group_identity_location_accept» .value .«group_identity_downlink» .groups)
-places attachDetach r = length (r .«attach_detach» .«group_identity_downlink» .groups)
-
 abbrev Shows : Message → Record → ℕ → Type 0
-Shows m r g = (g ≡ shownIn m r) × (g ≤ 63) × (places m r ≡ 63)
+Shows m r g = (g ≡ shownIn m r) × (g ≤ 63) × FullList m r
 
 -- what stands behind the groups
 abbrev behindGroups : Message → Record → List ℕ

@@ -7,15 +7,19 @@ use mathlib.Core.List.{List}
 use lib.ListN.{length}
 use lib.Dec.{eqb}
 use Rattle.bits.specs.PduParseError.{badCall}
+use Rattle.bits.specs.Placed.{Placed, at, refusal}
+use Rattle.bits.specs.declared.bitbuffer.Cursor.{Cursor}
+use Rattle.elements.specs.Answers.{asSkipped}
+use Rattle.elements.specs.Table.{Counted}
+use Rattle.elements.specs.declared.typed_pdu_fields.Skipped.{Skipped}
+use Rattle.elements.specs.declared.typed_pdu_fields.Skipped.the-variants as S
 use Rattle.messages.specs.Head.{uLocationUpdateDemand, dLocationUpdateAccept, dAttachDetachGroupIdentity}
-use Rattle.messages.specs.Calls.{messageOf, known, octetsMost, goodWindow, goodCall, messageBits, messageAsked, noReading, reading, writingRefusal, writing, writingOf, octetsWritten}
-use Rattle.messages.specs.PlacedCalls.{bad-call, good-window}
+use Rattle.messages.specs.Calls.{messageOf, readMessage, known, octetsMost, goodWindow, goodCall, messageBits, messageAsked, noReading, reading, writingRefusal, writing, writingOf, octetsWritten}
+use Rattle.messages.specs.PlacedCalls.{Own, call-taken, call-refused, bad-call, good-window}
 use Rattle.messages.specs.Questions.{firstNo}
 use Rattle.messages.specs.RoundTrip.{passed}
 use Rattle.messages.specs.declared.Record.{Record}
-use Rattle.messages.specs.declared.Reading.{Reading}
 use Rattle.messages.specs.declared.Writing.{Writing}
-use Rattle.messages.specs.declared.Verdict.the-variants.{Accepted}
 use Rattle.exports.specs.Rewrite.{writingResult, rewriteResult, rewriteOctets}
 
 module _ (m : ℕ) (os : List ℕ) (first end : ℕ) (out : List ℕ) (outFirst outEnd : ℕ) where
@@ -23,17 +27,23 @@ module _ (m : ℕ) (os : List ℕ) (first end : ℕ) (out : List ℕ) (outFirst 
   abbrev pub Rewritten : ℕ → List ℕ → Type 0
   Rewritten n out′ = (n ≡ rewriteResult m os first end out outFirst outEnd) × (out′ ≡ rewriteOctets m os first end out outFirst outEnd)
 
-  pub rewrite-refused : {n : ℕ} → noReading n first ≡ reading m 0 os first end → Rewritten n out
+  no-reading : {n : ℕ} → noReading n first ≡ reading m 0 os first end → Rewritten n out
   unfolding rewriteResult rewriteOctets
-  rewrite-refused e = (rw (← e), rw (← e))
+  no-reading e = (rw (← e), rw (← e))
 
-  pub rewrite-taken : {x : Reading} {w : Writing} {out′ : List ℕ} → x ≡ reading m 0 os first end → x .verdict ≡ Accepted
-      → w ≡ writing m out outFirst outEnd (x .«record») → out′ ≡ octetsWritten m out outFirst outEnd (x .«record») → Rewritten (writingResult w) out′
-  unfolding rewriteResult rewriteOctets
-  rewrite-taken e v w o = (rw (← e, v, w), rw (← e, v, o))
+  -- by the verdict of the message's reader
+  module _ {X R : Type 0} {f : Placed (Counted Record) → X} {verdict : X → Skipped} {own : X → R} {of : R → Record} (o : Own (messageOf m) f verdict own of)
+      (good : goodCall m 0 (length os) first end ≡ true) {y : X} (e : y ≡ f (at (readMessage (messageOf m) false) os (record { at = first; end = end }))) where
+    pub rewrite-refused : {i n : ℕ} → verdict y ≡ S.Refused i → n ≡ refusal (asSkipped (verdict y)) → Rewritten n out
+    rewrite-refused v number = no-reading (call-refused m 0 os first end o good e v number)
+
+    pub rewrite-taken : {n : ℕ} {k : Cursor} {w : Writing} {out′ : List ℕ} → verdict y ≡ S.Count n k
+        → w ≡ writing m out outFirst outEnd (of (own y)) → out′ ≡ octetsWritten m out outFirst outEnd (of (own y)) → Rewritten (writingResult w) out′
+    unfolding rewriteResult rewriteOctets
+    rewrite-taken v w p = let r = call-taken m 0 os first end o good e v in (rw (← r, w), rw (← r, p))
 
   pub rewrite-bad : goodCall m 0 (length os) first end ≡ false → Rewritten badCall out
-  rewrite-bad g = rewrite-refused (bad-call m 0 os first end g)
+  rewrite-bad g = no-reading (bad-call m 0 os first end g)
 
   -- a message that is none of the three
   pub rewrite-unknown : eqb m uLocationUpdateDemand ≡ false → eqb m dLocationUpdateAccept ≡ false → eqb m dAttachDetachGroupIdentity ≡ false → Rewritten badCall out

@@ -45,15 +45,32 @@ fn at_most_63(n: usize) -> usize
     if n < 63 { n } else { 63 }
 }
 
-// 8 octets, high first.
+// The octets of a number, high first.
+fn high_first(v: u64) -> [u8; 8]
+    ensures { λ r. ⌜ r ≡ highFirst 8 v ⌝ }
+{
+    [
+        ((v >> 56) % 256) as u8,
+        ((v >> 48) % 256) as u8,
+        ((v >> 40) % 256) as u8,
+        ((v >> 32) % 256) as u8,
+        ((v >> 24) % 256) as u8,
+        ((v >> 16) % 256) as u8,
+        ((v >> 8) % 256) as u8,
+        (v % 256) as u8,
+    ]
+}
+
+// 8 octets, high first: made beside the buffer and copied, which is compiled as one store.
 fn put_number(flat: &mut [u8], at: usize, v: u64)
     requires { ⌜ at + 8 ≤ length (now flat) ⌝ }
     ensures { λ _. ⌜ now (flat .exit) ≡ sets (now (flat .entry)) at (highFirst 8 v) ⌝ }
 {
-    let mut left: usize = 8;
-    while 0 < left {
-        left -= 1;
-        flat[at + (7 - left)] = ((v >> (8 * left)) % 256) as u8;
+    let octets = high_first(v);
+    let mut i: usize = 0;
+    while i < 8 {
+        flat[at + i] = octets[i];
+        i += 1;
     }
 }
 

@@ -17,7 +17,7 @@ use Rattle.elements.specs.declared.typed_pdu_fields.Skipped.the-variants as S
 use Rattle.messages.specs.Head.{uLocationUpdateDemand, dLocationUpdateAccept, dAttachDetachGroupIdentity}
 use Rattle.messages.specs.MessageAnswers.{demandAnswer, acceptAnswer, attachDetachAnswer}
 use Rattle.messages.specs.Calls.{messageOf, readMessage, goodCall, windowOf, noRecord, ofDemand, ofAccept, ofAttachDetach, noReading, readingOf, reading}
-use Rattle.messages.specs.PlacedCalls.{accepted, called, Own, taken, not-taken, own-demand, own-accept, own-attach-detach, good-call, bad-call, place-inside}
+use Rattle.messages.specs.PlacedCalls.{accepted, called, Own, taken, own-demand, own-accept, own-attach-detach, call-taken, call-refused, bad-call, place-inside}
 use Rattle.messages.specs.declared.u_location_update_demand.ULocationUpdateDemand.{ULocationUpdateDemand}
 use Rattle.messages.specs.declared.d_location_update_accept.DLocationUpdateAccept.{DLocationUpdateAccept}
 use Rattle.messages.specs.declared.d_attach_detach_group_identity.DAttachDetachGroupIdentity.{DAttachDetachGroupIdentity}
@@ -79,7 +79,7 @@ module _ {m : ℕ} {X R M : Type 0} {f : Placed (Counted Record) → X} {verdict
     pub measured-refused : {i n : ℕ} → verdict y ≡ S.Refused i → n ≡ refusal (asSkipped (verdict y))
         → with (pick noRecord) n ≡ measured (reading m how os first end)
     measured-refused {n = n} v number =
-        refused-with n (not-taken (messageOf m) (d .owned) (eqb how 1) os _ e v number ∙ good-call m how os first end _ refl good)
+        refused-with n (call-refused m how os first end (d .owned) good e v number)
 
     pub record Measured (k : Cursor) : Type 0 where
       pub on : first ≤ k .at
@@ -88,11 +88,10 @@ module _ {m : ℕ} {X R M : Type 0} {f : Placed (Counted Record) → X} {verdict
 
     pub measured-read : {n : ℕ} {k : Cursor} → verdict y ≡ S.Count n k → Measured k
     measured-read {n} {k} v =
-        let t = taken (messageOf m) (d .owned) (eqb how 1) os (record { at = first; end = end }) e v in
         let r : Reading = accepted first n k (d .of (own y)) in
-        let is : r ≡ reading m how os first end = t .answer ∙ good-call m how os first end _ refl good in
+        let is : r ≡ reading m how os first end = call-taken m how os first end (d .owned) good e v in
         record {
-          on = t .on;
+          on = taken (messageOf m) (d .owned) (eqb how 1) os (record { at = first; end = end }) e v .on;
           few = few-consumed m how os first end is refl;
           answer = ap (λ (x : R). with x (64 * (k .at - first))) (sym (d .picked (own y))) ∙ ap (with (pick (d .of (own y)))) (of-read r refl) ∙ ap measured is;
         }

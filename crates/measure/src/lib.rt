@@ -1,4 +1,4 @@
-// For benchmarks: one field read, one field written, and each of the messages read and written.
+// For benchmarks: one field read, one field written, and each of the messages read, written, and written over and over.
 ghost use mathlib.Core.Path.{_≡_};
 ghost use Rattle.bits.specs.Reader.{word};
 ghost use Rattle.bits.specs.Placed.{at as atCursor, refusal};
@@ -6,6 +6,7 @@ ghost use Rattle.bits.specs.Written.{writeField};
 ghost use Rattle.messages.specs.Head.{uLocationUpdateDemand, dLocationUpdateAccept, dAttachDetachGroupIdentity};
 ghost use Rattle.messages.specs.Calls.{ofDemand, ofAccept, ofAttachDetach, reading, writing, octetsWritten};
 ghost use Rattle.measure.specs.Measured.{valueOrRefusal, measuredDemand, measuredAccept, measuredAttachDetach};
+ghost use Rattle.measure.specs.Repeated.{repeated};
 use bits::bitbuffer::Cursor;
 use bits::bitbuffer::Field;
 use bits::pdu_parse_error::BAD_CALL;
@@ -217,4 +218,68 @@ pub extern "C" fn measure_write_attach_detach(
 {
     let w = write_attach_detach(octets, first, end, d);
     w.written as u64
+}
+
+// A message written `times` times, each time by a writing call: the number of bits that the last one wrote.
+#[no_mangle]
+pub extern "C" fn measure_writes_demand(
+    d: ULocationUpdateDemand,
+    octets: &mut [u8],
+    first: usize,
+    end: usize,
+    times: usize,
+) -> u64
+    ensures bits { λ r. ⌜ r ≡ repeated uLocationUpdateDemand first end (ofDemand d) times (now (octets .entry)) .bits ⌝ }
+    ensures octets { λ r. ⌜ now (octets .exit) ≡ repeated uLocationUpdateDemand first end (ofDemand d) times (now (octets .entry)) .octets ⌝ }
+{
+    let mut bits: u64 = 0;
+    let mut i: usize = 0;
+    while i < times {
+        let w = write_demand(octets, first, end, d);
+        bits = w.written as u64;
+        i += 1;
+    }
+    bits
+}
+
+#[no_mangle]
+pub extern "C" fn measure_writes_accept(
+    d: DLocationUpdateAccept,
+    octets: &mut [u8],
+    first: usize,
+    end: usize,
+    times: usize,
+) -> u64
+    ensures bits { λ r. ⌜ r ≡ repeated dLocationUpdateAccept first end (ofAccept d) times (now (octets .entry)) .bits ⌝ }
+    ensures octets { λ r. ⌜ now (octets .exit) ≡ repeated dLocationUpdateAccept first end (ofAccept d) times (now (octets .entry)) .octets ⌝ }
+{
+    let mut bits: u64 = 0;
+    let mut i: usize = 0;
+    while i < times {
+        let w = write_accept(octets, first, end, d);
+        bits = w.written as u64;
+        i += 1;
+    }
+    bits
+}
+
+#[no_mangle]
+pub extern "C" fn measure_writes_attach_detach(
+    d: DAttachDetachGroupIdentity,
+    octets: &mut [u8],
+    first: usize,
+    end: usize,
+    times: usize,
+) -> u64
+    ensures bits { λ r. ⌜ r ≡ repeated dAttachDetachGroupIdentity first end (ofAttachDetach d) times (now (octets .entry)) .bits ⌝ }
+    ensures octets { λ r. ⌜ now (octets .exit) ≡ repeated dAttachDetachGroupIdentity first end (ofAttachDetach d) times (now (octets .entry)) .octets ⌝ }
+{
+    let mut bits: u64 = 0;
+    let mut i: usize = 0;
+    while i < times {
+        let w = write_attach_detach(octets, first, end, d);
+        bits = w.written as u64;
+        i += 1;
+    }
+    bits
 }

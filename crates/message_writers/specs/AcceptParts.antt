@@ -1,8 +1,8 @@
 -- The parts that a D-LOCATION UPDATE ACCEPT is written in: up to the O-bit; the type 2 elements in two fields; the listed elements.
 use Prim.Native.Nat.{ℕ, _+_, _≤_}
 use native.Mathlib.Omega.{arith}
-use mathlib.Core.Path.{_≡_, refl, sym, ap, ap₂, _∙_}
-use mathlib.Core.Bool.{Bool, true, false, cond, not, _&&_, _||_}
+use mathlib.Core.Path.{_≡_, refl, sym, ap, _∙_}
+use mathlib.Core.Bool.{Bool, true, false, cond, not, _&&_, _||_, or-false}
 use mathlib.Core.List.{List, [], _∷_, _++_, append-assoc}
 use lib.ListN.{length, length-append}
 use lib.Dec.{eqb}
@@ -10,7 +10,6 @@ use borrow.Author.Tests.{not-true}
 use Rattle.bits.specs.Bits.{Bits, bit, digits}
 use Rattle.bits.specs.BitsLaws.{length-digits}
 use Rattle.bits.specs.Written.{joined}
-use Rattle.bits.specs.PutsLaws.{joined-append}
 use Rattle.elements.specs.Numbers.{held, optionAll, optionMap, inWidth, inU64, flagWidth, type2Bits}
 use Rattle.elements.specs.NumbersLaws.{both, one-bit}
 use Rattle.elements.specs.EnergySaving.{savingBits}
@@ -32,8 +31,8 @@ use Rattle.messages.specs.declared.d_location_update_accept.AcceptOptions.{Acce
 use Rattle.messages.specs.declared.d_location_update_accept.AcceptHead.{AcceptHead}
 use Rattle.messages.specs.declared.d_location_update_accept.DLocationUpdateAccept.{DLocationUpdateAccept}
 use Rattle.message_writers.specs.Writes.{Answered}
-use Rattle.message_writers.specs.WritesLaws.{all-append, or-false, genericBits, kind-slot, type3-slot, type4-slot, slot-present, optional-length, parts-joined, front-joined, parts-length}
-use Rattle.message_writers.specs.Parts.{saving-length, addressesBits, addresses-length, fits3, fourAsked, fourParts, four-joined, four-length, type2-length, cond-most}
+use Rattle.message_writers.specs.WritesLaws.{all-append, genericBits, kind-slot, type3-slot, type4-slot, slot-present, optional-length, InParts, in-parts}
+use Rattle.message_writers.specs.Parts.{saving-length, addressesBits, addresses-length, fits3, fourAsked, fourParts, then-four, then-four-length, type2-length, cond-most}
 use Rattle.message_writers.specs.declared.parts.FourGenerics.{FourGenerics}
 use Rattle.message_writers.specs.declared.d_location_update_accept.AcceptRest.{AcceptRest}
 
@@ -263,8 +262,7 @@ module _ (d : DLocationUpdateAccept) {a : LocationAsked} (asked : a ≡ acceptLo
   unfolding tableBits
   elements-joined =
       ap (λ (xs : Bits). genericBits 3 (d .«security_downlink») ++ xs)
-      (joined-append locationParts four
-      ∙ ap₂ (λ (xs ys : Bits). xs ++ ys) (location-accept-joined location asked) (four-joined (1 ∷ 10 ∷ 13 ∷ 15 ∷ []) (acceptGenericsIn d)))
+      (then-four locationParts (1 ∷ 10 ∷ 13 ∷ 15 ∷ []) (acceptGenericsIn d) (location-accept-joined location asked))
       ∙ sym (rw (
         type4-slot 2 (d .«new_registered_area») no-area,
         type3-slot 3 (d .«security_downlink»),
@@ -288,16 +286,13 @@ module _ (d : DLocationUpdateAccept) {a : LocationAsked} (asked : a ≡ acceptLo
   unfolding acceptBits
   front-bits = simp append-assoc
 
-  pub accept-joined : acceptMore d ≡ true → joined (acceptFront (acceptHeadIn d) ∷ behind) ≡ acceptBits d
-  accept-joined = parts-joined (acceptFront (acceptHeadIn d)) behind (acceptMore d) behind-joined front-bits
-
-  pub accept-alone : acceptMore d ≡ false → joined (acceptFront (acceptHeadIn d) ∷ []) ≡ acceptBits d
-  accept-alone = front-joined (acceptFront (acceptHeadIn d)) behind (acceptMore d) behind-joined front-bits
+  pub accept-in-parts : InParts (acceptFront (acceptHeadIn d)) behind (acceptMore d) (acceptBits d)
+  accept-in-parts = in-parts (acceptFront (acceptHeadIn d)) behind (acceptMore d) behind-joined front-bits
 
   location-length : length (joined locationParts) ≡ cond (location .present) (16 + a .content) 0
   location-length =
-      ap length (location-accept-joined location asked)
-      ∙ optional-length 5 locationAcceptBits (location .present) (location .value) (ap (λ (x : LocationAsked). x .content) asked)
+      optional-length 5 locationAcceptBits (location .present) (location .value) locationParts (location-accept-joined location asked)
+      (ap (λ (x : LocationAsked). x .content) asked)
 
   behind-length : AcceptGenerics (d .«security_downlink») (acceptGenericsIn d)
       → length (joined behind)
@@ -313,11 +308,8 @@ module _ (d : DLocationUpdateAccept) {a : LocationAsked} (asked : a ≡ acceptLo
         length-append y (s ++ joined (locationParts ++ four)),
         length-append s (joined (locationParts ++ four)),
         length-append x y,
-        ap length (joined-append locationParts four),
-        length-append (joined locationParts) (joined four),
-        location-length,
         type3-size 3 (d .«security_downlink») (f .security),
-        four-length (1 ∷ 10 ∷ 13 ∷ 15 ∷ []) (acceptGenericsIn d) (f .others),
+        then-four-length locationParts (1 ∷ 10 ∷ 13 ∷ 15 ∷ []) (acceptGenericsIn d) location-length (f .others),
       )
 
   -- how long it is
@@ -325,7 +317,7 @@ module _ (d : DLocationUpdateAccept) {a : LocationAsked} (asked : a ≡ acceptLo
       → 8 + cond (acceptMore d)
       (acceptOptionsSize options + (type3Size (d .«security_downlink») + (cond (location .present) (16 + a .content) 0 + (fourAsked (acceptGenericsIn d) .size + 1)))) 0
       ≡ length (acceptBits d)
-  accept-length f = rw (← behind-length f) (omega (arith, front-length (acceptHeadIn d), parts-length (acceptFront (acceptHeadIn d)) behind (acceptMore d) behind-joined front-bits))
+  accept-length f = rw (← behind-length f) (omega (arith, front-length (acceptHeadIn d), accept-in-parts .long))
 
 -- THE ANSWERS to the questions
 pub accept-answered : (d : DLocationUpdateAccept) (h : AcceptHead) (r : AcceptRest) (located : Bool) (l : LocationAsked) (g : FourGenerics) → AcceptIs d h r located l g

@@ -2,7 +2,7 @@
 use Prim.Native.Nat.{ℕ, _+_, _≤_}
 use native.Mathlib.Omega.{arith}
 use mathlib.Core.Path.{_≡_, refl, ap, ap₂, _∙_}
-use mathlib.Core.Bool.{Bool, true, false, cond, not, _||_}
+use mathlib.Core.Bool.{Bool, true, cond, not, _||_, or-false}
 use mathlib.Core.List.{List, [], _∷_, _++_, append-assoc, append-nil}
 use lib.ListN.{length, length-append}
 use borrow.Author.Tests.{not-true}
@@ -27,7 +27,7 @@ use Rattle.messages.specs.AttachDetach.{attachDetachHeadOf, attachDetachTable, 
 use Rattle.messages.specs.QuestionsLaws.{each-of}
 use Rattle.messages.specs.declared.d_attach_detach_group_identity.AttachDetachHead.{AttachDetachHead}
 use Rattle.messages.specs.declared.d_attach_detach_group_identity.DAttachDetachGroupIdentity.{DAttachDetachGroupIdentity}
-use Rattle.message_writers.specs.WritesLaws.{genericBits, kind-slot, type3-slot, type4-slot, slot-present, or-false, optional-length, parts-joined, front-joined, parts-length}
+use Rattle.message_writers.specs.WritesLaws.{genericBits, kind-slot, type3-slot, type4-slot, slot-present, optional-length, InParts, in-parts}
 
 -- whether anything follows the O-bit
 abbrev pub attachDetachMore : DAttachDetachGroupIdentity → Bool
@@ -103,17 +103,14 @@ module _ (d : DAttachDetachGroupIdentity) {a : GroupsAsked} (asked : a ≡ asked
   unfolding attachDetachBits
   front-bits = simp append-assoc
 
-  pub attach-detach-joined : attachDetachMore d ≡ true → joined (attachDetachFront (attachDetachHeadIn d) ∷ elements) ≡ attachDetachBits d
-  attach-detach-joined = parts-joined (attachDetachFront (attachDetachHeadIn d)) elements (attachDetachMore d) elements-joined front-bits
-
-  pub attach-detach-alone : attachDetachMore d ≡ false → joined (attachDetachFront (attachDetachHeadIn d) ∷ []) ≡ attachDetachBits d
-  attach-detach-alone = front-joined (attachDetachFront (attachDetachHeadIn d)) elements (attachDetachMore d) elements-joined front-bits
+  pub attach-detach-in-parts : InParts (attachDetachFront (attachDetachHeadIn d)) elements (attachDetachMore d) (attachDetachBits d)
+  attach-detach-in-parts = in-parts (attachDetachFront (attachDetachHeadIn d)) elements (attachDetachMore d) elements-joined front-bits
 
   list-length : length (joined (outerListParts (a .size) (d .«group_identity_downlink»))) ≡ cond (d .«group_identity_downlink» .present) (16 + a .size) 0
   list-length =
       let size = ap (λ (x : GroupsAsked). x .size) asked in
-      ap length (outer-list-joined (d .«group_identity_downlink») size)
-      ∙ optional-length groupIdentityDownlink (listBits downlinks) (d .«group_identity_downlink» .present) (d .«group_identity_downlink») size
+      optional-length groupIdentityDownlink (listBits downlinks) (d .«group_identity_downlink» .present) (d .«group_identity_downlink»)
+      (outerListParts (a .size) (d .«group_identity_downlink»)) (outer-list-joined (d .«group_identity_downlink») size) size
 
   elements-length : GenericsFit (d .proprietary) (d .«group_report_response»)
       → length (joined elements)
@@ -141,4 +138,4 @@ module _ (d : DAttachDetachGroupIdentity) {a : GroupsAsked} (asked : a ≡ asked
   pub attach-detach-length : GenericsFit (d .proprietary) (d .«group_report_response»)
       → 8 + cond (attachDetachMore d) (type3Size (d .proprietary) + (type3Size (d .«group_report_response») + (cond (d .«group_identity_downlink» .present) (16 + a .size) 0 + 1))) 0
       ≡ length (attachDetachBits d)
-  attach-detach-length f = rw (← elements-length f) (omega (arith, front-length (attachDetachHeadIn d), parts-length (attachDetachFront (attachDetachHeadIn d)) elements (attachDetachMore d) elements-joined front-bits))
+  attach-detach-length f = rw (← elements-length f) (omega (arith, front-length (attachDetachHeadIn d), attach-detach-in-parts .long))

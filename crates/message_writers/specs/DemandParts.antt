@@ -2,14 +2,13 @@
 use Prim.Native.Nat.{ℕ, _+_, _*_, _/_, _^_, _≤_}
 use native.Mathlib.Omega.{arith}
 use mathlib.Core.Path.{_≡_, refl, sym, ap, ap₂, _∙_}
-use mathlib.Core.Bool.{Bool, true, false, cond, _&&_, _||_, Bool·beq}
+use mathlib.Core.Bool.{Bool, true, false, cond, _&&_, _||_, Bool·beq, and-true, or-false}
 use mathlib.Core.List.{List, [], _∷_, _++_, append-assoc, append-nil}
 use lib.ListN.{length, length-append}
 use lib.Dec.{eqb}
 use Rattle.bits.specs.Bits.{Bits, bit, digits}
 use Rattle.bits.specs.BitsLaws.{length-digits, digits-append, digits-add}
 use Rattle.bits.specs.Written.{joined}
-use Rattle.bits.specs.PutsLaws.{joined-append}
 use Rattle.elements.specs.Numbers.{held, optionBits, optionAll, optionMap, inWidth, inU8, inU64, flagWidth, type2Bits}
 use Rattle.elements.specs.NumbersLaws.{both, one-bit}
 use Rattle.elements.specs.ClassOfMs.{classBits, classFits}
@@ -28,9 +27,9 @@ use Rattle.messages.specs.Demand.{cipheringWidth, laWidth, laValueWidth, classI
 use Rattle.messages.specs.declared.u_location_update_demand.DemandOptions.{DemandOptions}
 use Rattle.messages.specs.declared.u_location_update_demand.DemandHead.{DemandHead}
 use Rattle.messages.specs.declared.u_location_update_demand.ULocationUpdateDemand.{ULocationUpdateDemand}
-use Rattle.message_writers.specs.Writes.{Answered}
-use Rattle.message_writers.specs.WritesLaws.{all-in-three, or-false, kind-slot, type3-slot, slot-present, optional-length, parts-joined, front-joined, parts-length}
-use Rattle.message_writers.specs.Parts.{class-length, addressesBits, addresses-length, fourAsked, fourTests, four-tests, fourParts, four-joined, four-length, type2-length, cond-most}
+use Rattle.message_writers.specs.Writes.{asAsked, Answered}
+use Rattle.message_writers.specs.WritesLaws.{all-in-three, neither, kind-slot, type3-slot, slot-present, optional-length, InParts, in-parts}
+use Rattle.message_writers.specs.Parts.{class-length, addressesBits, addresses-length, fourAsked, fourTests, four-tests, fourParts, then-four, then-four-length, type2-length, cond-most}
 use Rattle.message_writers.specs.declared.parts.FourGenerics.{FourGenerics}
 
 abbrev pub demandHeadIn : ULocationUpdateDemand → DemandHead
@@ -73,9 +72,15 @@ demandFirst o =
     (type2Bits classBits (held (o .«class_of_ms» .present) (o .«class_of_ms» .value)) ++ type2Bits (digits savingModeWidth) (inU8 (o .«energy_saving_mode»)))
     ++ type2Bits laBits (inU64 (o .«la_information»))
 
+abbrev pub demandOptionsParts : DemandOptions → List Bits
+demandOptionsParts o = demandFirst o ∷ addressesBits (o .ssi) (o .«address_extension») ∷ []
+
+abbrev pub demandGenericsParts : FourGenerics → List Bits
+demandGenericsParts g = fourParts (4 ∷ 9 ∷ 11 ∷ 15 ∷ []) g
+
 -- the list's content has m bits, the location demand's n
 abbrev pub demandElements : ℕ → ℕ → OptionalLocationDemand → FourGenerics → List Bits
-demandElements m n l g = demandLocationParts m n l ++ fourParts (4 ∷ 9 ∷ 11 ∷ 15 ∷ []) g
+demandElements m n l g = demandLocationParts m n l ++ demandGenericsParts g
 
 abbrev pub demandBehind : DemandOptions → ℕ → ℕ → OptionalLocationDemand → FourGenerics → List Bits
 demandBehind o m n l g = demandFirst o ∷ addressesBits (o .ssi) (o .«address_extension») ∷ demandElements m n l g
@@ -208,6 +213,9 @@ location-slot : (o : OptionalLocationDemand)
 unfolding contentBitsOf
 location-slot o = kind-slot 3 ofLocationDemand isLocationDemand locationDemandBits (λ d. refl) (o .present) (o .value)
 
+unlocated : (m n : ℕ) (o : OptionalLocationDemand) → o .present ≡ false → demandLocationParts m n o ≡ []
+unlocated m n o e = rw e
+
 module _ (d : ULocationUpdateDemand) {a : LocationAsked} (asked : a ≡ demandLocationAsked (d .«group_identity_location_demand»)) where
   abbrev options : DemandOptions
   options = demandHeadIn d .options
@@ -222,7 +230,7 @@ module _ (d : ULocationUpdateDemand) {a : LocationAsked} (asked : a ≡ demandLo
   locationParts = demandLocationParts (a .list) (a .content) location
 
   abbrev four : List Bits
-  four = fourParts (4 ∷ 9 ∷ 11 ∷ 15 ∷ []) (demandGenericsIn d)
+  four = demandGenericsParts (demandGenericsIn d)
 
   abbrev table : Bits
   table = tableBits identifierOf contentBits demandTable (demandSlots d)
@@ -230,8 +238,7 @@ module _ (d : ULocationUpdateDemand) {a : LocationAsked} (asked : a ≡ demandLo
   elements-joined : joined (locationParts ++ four) ≡ table
   unfolding tableBits
   elements-joined =
-      joined-append locationParts four
-      ∙ ap₂ (λ (xs ys : Bits). xs ++ ys) (location-demand-joined location asked) (four-joined (4 ∷ 9 ∷ 11 ∷ 15 ∷ []) (demandGenericsIn d))
+      then-four locationParts (4 ∷ 9 ∷ 11 ∷ 15 ∷ []) (demandGenericsIn d) (location-demand-joined location asked)
       ∙ sym (rw (
         location-slot location,
         type3-slot 4 (d .«group_report_response»),
@@ -251,16 +258,19 @@ module _ (d : ULocationUpdateDemand) {a : LocationAsked} (asked : a ≡ demandLo
   unfolding demandBits
   front-bits = simp append-assoc
 
-  pub demand-joined : demandMore d ≡ true → joined (demandFront (demandHeadIn d) ∷ behind) ≡ demandBits d
-  demand-joined = parts-joined (demandFront (demandHeadIn d)) behind (demandMore d) behind-joined front-bits
+  pub demand-in-parts : InParts (demandFront (demandHeadIn d)) behind (demandMore d) (demandBits d)
+  demand-in-parts = in-parts (demandFront (demandHeadIn d)) behind (demandMore d) behind-joined front-bits
 
-  pub demand-alone : demandMore d ≡ false → joined (demandFront (demandHeadIn d) ∷ []) ≡ demandBits d
-  demand-alone = front-joined (demandFront (demandHeadIn d)) behind (demandMore d) behind-joined front-bits
+  -- without a location demand
+  pub demand-unlocated : demandMore d ≡ true → location .present ≡ false → joined (demandFront (demandHeadIn d) ∷ (demandOptionsParts options ++ four)) ≡ demandBits d
+  demand-unlocated m p =
+      ap (λ (xs : List Bits). joined (demandFront (demandHeadIn d) ∷ (demandOptionsParts options ++ (xs ++ four)))) (sym (unlocated (a .list) (a .content) location p))
+      ∙ demand-in-parts .all m
 
   location-length : length (joined locationParts) ≡ cond (location .present) (16 + a .content) 0
   location-length =
-      ap length (location-demand-joined location asked)
-      ∙ optional-length 3 locationDemandBits (location .present) (location .value) (ap (λ (x : LocationAsked). x .content) asked)
+      optional-length 3 locationDemandBits (location .present) (location .value) locationParts (location-demand-joined location asked)
+      (ap (λ (x : LocationAsked). x .content) asked)
 
   behind-length : fourAsked (demandGenericsIn d) .fits ≡ true
       → length (joined behind) ≡ demandOptionsSize options + (cond (location .present) (16 + a .content) 0 + (fourAsked (demandGenericsIn d) .size + 1))
@@ -273,10 +283,7 @@ module _ (d : ULocationUpdateDemand) {a : LocationAsked} (asked : a ≡ demandLo
         length-append x (y ++ joined (locationParts ++ four)),
         length-append y (joined (locationParts ++ four)),
         length-append x y,
-        ap length (joined-append locationParts four),
-        length-append (joined locationParts) (joined four),
-        location-length,
-        four-length (4 ∷ 9 ∷ 11 ∷ 15 ∷ []) (demandGenericsIn d) f,
+        then-four-length locationParts (4 ∷ 9 ∷ 11 ∷ 15 ∷ []) (demandGenericsIn d) location-length f,
       )
 
   -- how long it is
@@ -284,7 +291,7 @@ module _ (d : ULocationUpdateDemand) {a : LocationAsked} (asked : a ≡ demandLo
       → 10 + (cond (d .«ciphering_parameters» .present) 10 0 + cond (demandMore d)
       (demandOptionsSize options + (cond (location .present) (16 + a .content) 0 + (fourAsked (demandGenericsIn d) .size + 1))) 0)
       ≡ length (demandBits d)
-  demand-length f = rw (← behind-length f) (omega (arith, front-length (demandHeadIn d), parts-length (demandFront (demandHeadIn d)) behind (demandMore d) behind-joined front-bits))
+  demand-length f = rw (← behind-length f) (omega (arith, front-length (demandHeadIn d), demand-in-parts .long))
 
 -- THE ANSWERS to the questions
 pub demand-answered : (d : ULocationUpdateDemand) (h : DemandHead) (located : Bool) (l : LocationAsked) (g : FourGenerics) → DemandIs d h located l g
@@ -305,3 +312,48 @@ unfolding demandAsked
 demand-answered d h located l g w =
     rw (w .head, w .there, w .asked, w .generics, one-bit (demandMore d))
     (record { is = rw (demand-fits d); size = λ f t. demand-length d refl (demand-generics d f) })
+
+-- without anything behind the O-bit, the questions are those of the head
+pub demand-alone-answered : (d : ULocationUpdateDemand) (h : DemandHead) → h ≡ demandHeadIn d → demandMore d ≡ false
+    → Answered (demandAsked d) (demandBits d) (record {
+      fits = allOf (demandHeadTests h);
+      ciphered = Bool·beq (h .«ciphering_parameters» .present) (eqb (h .«cipher_control») 1);
+      attached = true;
+      formed = true;
+      alive = true;
+      saving = true;
+      «type3_only» = true;
+      short = true;
+      size = 10 + cond (h .«ciphering_parameters» .present) 10 0;
+    })
+demand-alone-answered d h e m =
+    let options =
+    d .«class_of_ms» .present || (d .«energy_saving_mode» .present || (d .«la_information» .present || (d .ssi .present || d .«address_extension» .present))) in
+    let all = neither options _ (sym (demand-more d) ∙ m) in
+    let class = neither (d .«class_of_ms» .present) _ (all .0) in
+    let mode = neither (d .«energy_saving_mode» .present) _ (class .1) in
+    let la = neither (d .«la_information» .present) _ (mode .1) in
+    let ssi = neither (d .ssi .present) _ (la .1) in
+    let location = neither (d .«group_identity_location_demand» .present) _ (all .1) in
+    let response = neither (d .«group_report_response» .present) _ (location .1) in
+    let uplink = neither (d .«authentication_uplink» .present) _ (response .1) in
+    let capabilities = neither (d .«extended_capabilities» .present) _ (uplink .1) in
+    let base =
+    demand-answered d (demandHeadIn d) (d .«group_identity_location_demand» .present) (demandLocationAsked (d .«group_identity_location_demand»)) (demandGenericsIn d)
+    (record { head = refl; there = refl; asked = refl; generics = refl }) in
+    let fits : (allOf (demandHeadTests (demandHeadIn d)) && (allOf (demandOptionsTests (demandHeadIn d .options))
+    && (demandLocationAsked (d .«group_identity_location_demand») .fits && fourAsked (demandGenericsIn d) .fits))) ≡ allOf (demandHeadTests (demandHeadIn d)) =
+    rw (class .0, mode .0, la .0, ssi .0, ssi .1, location .0, response .0, uplink .0, capabilities .0, capabilities .1) (and-true (allOf (demandHeadTests (demandHeadIn d)))) in
+    let is =
+    ap₂ (λ (f p : Bool). let l = demandLocationAsked (record { present = p; value = d .«group_identity_location_demand» .value }) in asAsked (record {
+      fits = f;
+      ciphered = Bool·beq (d .«ciphering_parameters» .present) (eqb (d .«cipher_control») 1);
+      attached = l .one;
+      formed = l .listed;
+      alive = true;
+      saving = true;
+      «type3_only» = true;
+      short = l .short;
+      size = 0;
+    })) (sym fits) (sym (location .0)) in
+    rw e (record { is = is ∙ base .is; size = λ f t. let l = rw m at (base .size f t) in omega (arith, l) })

@@ -1,13 +1,16 @@
 -- What two of the messages share as they are written: the two addresses, four generic elements in a row; and how long type 2 elements are.
 use Prim.Native.Nat.{ℕ, _+_, _≤_}
 use native.Mathlib.Omega.{arith}
-use mathlib.Core.Path.{_≡_, refl, ap, _∙_}
-use mathlib.Core.Bool.{Bool, true, false, cond, _&&_}
+use mathlib.Core.Path.{_≡_, refl, ap, ap₂, _∙_}
+use mathlib.Core.Bool.{Bool, true, false, cond, _&&_, _||_, and-true}
 use mathlib.Core.List.{List, [], _∷_, _++_, append-nil}
 use lib.ListN.{length, getD, length-append}
 use Rattle.bits.specs.Bits.{Bits, digits}
 use Rattle.bits.specs.BitsLaws.{length-digits}
-use Rattle.bits.specs.Written.{joined}
+use Rattle.bits.specs.Placed.{Placed}
+use Rattle.bits.specs.Written.{Written, written, joined}
+use Rattle.bits.specs.WrittenLaws.{Octets}
+use Rattle.bits.specs.PutsLaws.{Puts, _⨾_, one, write-nothing, joined-append}
 use Rattle.elements.specs.Table.{mbitWidth}
 use Rattle.elements.specs.Numbers.{held, optionAll, type2Bits, inU64, flagWidth}
 use Rattle.elements.specs.NumbersLaws.{both}
@@ -22,7 +25,7 @@ use Rattle.elements.specs.declared.typed_pdu_fields.OptionalType3.{OptionalType
 use Rattle.element_writers.specs.WrittenElements.{type3Size, type3-size}
 use Rattle.messages.specs.Head.{ssiWidth, extensionWidth}
 use Rattle.messages.specs.Questions.{allOf}
-use Rattle.message_writers.specs.WritesLaws.{genericBits, and-true}
+use Rattle.message_writers.specs.WritesLaws.{genericBits, neither}
 use Rattle.message_writers.specs.declared.parts.FourGenerics.{FourGenerics}
 use Rattle.message_writers.specs.declared.parts.FourAsked.{FourAsked}
 
@@ -64,15 +67,26 @@ four-fit g h =
     let c = both (fits3 (g .third)) _ (b .1) in
     record { first = a .0; second = b .0; third = c .0; fourth = c .1 }
 
-pub four-joined : (is : List ℕ) (g : FourGenerics)
+four-joined : (is : List ℕ) (g : FourGenerics)
     → joined (fourParts is g)
     ≡ genericBits (getD is 0 0) (g .first) ++ (genericBits (getD is 1 0) (g .second) ++ (genericBits (getD is 2 0) (g .third)
     ++ (genericBits (getD is 3 0) (g .fourth) ++ digits mbitWidth 0)))
 unfolding joined
 four-joined is g = rw (append-nil (digits mbitWidth 0))
 
+-- none of them is there: the M-bit alone
+pub four-absent : (is : List ℕ) (g : FourGenerics) {os : List ℕ} {a : Placed Unit} {v : Written} → Octets os
+    → (g .first .present || (g .second .present || (g .third .present || g .fourth .present))) ≡ false
+    → Puts (digits mbitWidth 0 ∷ []) (written os a) v → Puts (fourParts is g) (written os a) v
+four-absent is g {os} {a} o h p =
+    let x = neither (g .first .present) _ h in
+    let y = neither (g .second .present) _ (x .1) in
+    let z = neither (g .third .present) _ (y .1) in
+    let e : Puts ([] ∷ []) (written os a) (written os a) = one [] (write-nothing os a o) in
+    rw (x .0, y .0, z .0, z .1) (e ⨾ (e ⨾ (e ⨾ (e ⨾ p))))
+
 -- the bits that the four and the M-bit have
-pub four-length : (is : List ℕ) (g : FourGenerics) → fourAsked g .fits ≡ true → length (joined (fourParts is g)) ≡ fourAsked g .size + 1
+four-length : (is : List ℕ) (g : FourGenerics) → fourAsked g .fits ≡ true → length (joined (fourParts is g)) ≡ fourAsked g .size + 1
 unfolding joined
 four-length is g h =
     let f = four-fit g h in
@@ -94,6 +108,18 @@ four-length is g h =
       type3-size (getD is 2 0) (g .third) (f .third),
       type3-size (getD is 3 0) (g .fourth) (f .fourth),
     )
+
+-- BEHIND OTHER PARTS: their bits, and how many
+module _ (before : List Bits) (is : List ℕ) (g : FourGenerics) where
+  pub then-four : {xs : Bits} → joined before ≡ xs
+      → joined (before ++ fourParts is g)
+      ≡ xs ++ (genericBits (getD is 0 0) (g .first) ++ (genericBits (getD is 1 0) (g .second) ++ (genericBits (getD is 2 0) (g .third)
+      ++ (genericBits (getD is 3 0) (g .fourth) ++ digits mbitWidth 0))))
+  then-four e = joined-append before (fourParts is g) ∙ ap₂ (λ (xs ys : Bits). xs ++ ys) e (four-joined is g)
+
+  pub then-four-length : {n : ℕ} → length (joined before) ≡ n → fourAsked g .fits ≡ true → length (joined (before ++ fourParts is g)) ≡ n + (fourAsked g .size + 1)
+  then-four-length e h =
+      ap length (joined-append before (fourParts is g)) ∙ length-append (joined before) (joined (fourParts is g)) ∙ ap₂ (λ (x y : ℕ). x + y) e (four-length is g h)
 
 pub class-length : (m : ClassOfMs) → length (classBits m) ≡ 24
 unfolding classBits numbersBits digits

@@ -2,7 +2,7 @@
 use Prim.Native.Nat.{ℕ, zero, suc, _+_}
 use native.Mathlib.Omega.{arith}
 use mathlib.Core.Path.{_≡_, refl, sym, ap, _∙_}
-use mathlib.Core.Bool.{Bool, true, false, cond, _&&_, _||_}
+use mathlib.Core.Bool.{Bool, true, false, cond, false≢true, _&&_, _||_, and-assoc}
 use mathlib.Core.List.{List, [], _∷_, _++_}
 use lib.ListN.{length, length-append}
 use lib.Dec.{leb}
@@ -74,24 +74,16 @@ bit-other false e = refl
 -- tests one after the other
 pub all-append : (bs cs : List Bool) → allOf (bs ++ cs) ≡ (allOf bs && allOf cs)
 all-append [] cs = refl
-all-append (b ∷ bs) cs = rw (all-append bs cs) (go b)
-  where
-    go : (b : Bool) → (b && (allOf bs && allOf cs)) ≡ ((b && allOf bs) && allOf cs)
-    go true = refl
-    go false = refl
+all-append (b ∷ bs) cs = rw (all-append bs cs) (sym (and-assoc b (allOf bs) (allOf cs)))
 
 -- in three lists, the last with a test before it
 pub all-in-three : (bs cs fs : List Bool) (l : Bool) {f : Bool} → allOf fs ≡ f → (allOf bs && (allOf cs && (l && f))) ≡ allOf (bs ++ (cs ++ (l ∷ fs)))
 all-in-three bs cs fs l e =
     sym (all-append bs (cs ++ (l ∷ fs)) ∙ ap (λ (b : Bool). allOf bs && b) (all-append cs (l ∷ fs) ∙ ap (λ (b : Bool). allOf cs && (l && b)) e))
 
-pub and-true : (b : Bool) → (b && true) ≡ b
-and-true true = refl
-and-true false = refl
-
-pub or-false : (b : Bool) → (b || false) ≡ b
-or-false true = refl
-or-false false = refl
+pub neither : (a b : Bool) → (a || b) ≡ false → (a ≡ false) × (b ≡ false)
+neither true b e = absurd (false≢true (sym e))
+neither false b e = (refl, e)
 
 -- ## the slots of a table
 
@@ -115,26 +107,27 @@ pub slot-present : {A B : Type 0} (f : A → B) (p : Bool) (a : A) → isPresent
 slot-present f true a = refl
 slot-present f false a = refl
 
--- how long an element that may be absent is, n being the length of its content
-pub optional-length : {A : Type 0} (i : ℕ) (bits : A → Bits) (p : Bool) (a : A) {n : ℕ} → n ≡ length (optionBits bits (held p a))
-    → length (optionalBits i bits (held p a)) ≡ cond p (16 + n) 0
-optional-length i bits true a e = element-length i (bits a) ∙ ap (λ (n : ℕ). 16 + n) (sym e)
-optional-length i bits false a e = refl
+-- how long the parts of an element that may be absent are, n being the length of its content
+pub optional-length : {A : Type 0} (i : ℕ) (bits : A → Bits) (p : Bool) (a : A) (xss : List Bits) {n : ℕ} → joined xss ≡ optionalBits i bits (held p a)
+    → n ≡ length (optionBits bits (held p a)) → length (joined xss) ≡ cond p (16 + n) 0
+optional-length i bits true a xss e size = ap length e ∙ element-length i (bits a) ∙ ap (λ (n : ℕ). 16 + n) (sym size)
+optional-length i bits false a xss e size = ap length e
 
 -- ## a message in parts: up to the O-bit, and what it announces
 
-module _ (front : Bits) (behind : List Bits) (more : Bool) {xs whole : Bits} (parts : joined behind ≡ xs) (is : front ++ cond more xs [] ≡ whole) where
-  pub parts-joined : more ≡ true → joined (front ∷ behind) ≡ whole
-  unfolding joined
-  parts-joined e = ap (λ (ys : Bits). front ++ ys) (parts ∙ rw e) ∙ is
+pub record InParts (front : Bits) (behind : List Bits) (more : Bool) (whole : Bits) : Type 0 where
+  pub all : more ≡ true → joined (front ∷ behind) ≡ whole
+  pub alone : more ≡ false → joined (front ∷ []) ≡ whole
+  pub long : length front + cond more (length (joined behind)) 0 ≡ length whole
 
-  pub front-joined : more ≡ false → joined (front ∷ []) ≡ whole
-  unfolding joined
-  front-joined e = ap (λ (ys : Bits). front ++ ys) (rw e) ∙ is
-
-  pub parts-length : length front + cond more (length (joined behind)) 0 ≡ length whole
-  parts-length = ap (λ (n : ℕ). length front + n) (go more) ∙ sym (length-append front (cond more xs [])) ∙ ap length is
-    where
-      go : (b : Bool) → cond b (length (joined behind)) 0 ≡ length (cond b xs [])
-      go true = ap length parts
-      go false = refl
+pub in-parts : (front : Bits) (behind : List Bits) (more : Bool) {xs whole : Bits} → joined behind ≡ xs → front ++ cond more xs [] ≡ whole → InParts front behind more whole
+unfolding joined
+in-parts front behind more {xs} parts is = record {
+  all = λ e. ap (λ (ys : Bits). front ++ ys) (parts ∙ rw e) ∙ is;
+  alone = λ e. ap (λ (ys : Bits). front ++ ys) (rw e) ∙ is;
+  long = ap (λ (n : ℕ). length front + n) (go more) ∙ sym (length-append front (cond more xs [])) ∙ ap length is;
+}
+  where
+    go : (b : Bool) → cond b (length (joined behind)) 0 ≡ length (cond b xs [])
+    go true = ap length parts
+    go false = refl

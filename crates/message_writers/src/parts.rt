@@ -73,9 +73,12 @@ pub(crate) fn write_four(
     let b = g.second;
     let c = g.third;
     let d = g.fourth;
-    let m1 = write_type3_generic(m, octets, identifiers[0], a);
-    let m2 = write_type3_generic(m1, octets, identifiers[1], b);
-    let m3 = write_type3_generic(m2, octets, identifiers[2], c);
-    let m4 = write_type3_generic(m3, octets, identifiers[3], d);
-    m4.put(octets, NO_DIGITS.then(0, 1))
+    if a.present | (b.present | (c.present | d.present)) {
+        let m1 = write_type3_generic(m, octets, identifiers[0], a);
+        let m2 = write_type3_generic(m1, octets, identifiers[1], b);
+        let m3 = write_type3_generic(m2, octets, identifiers[2], c);
+        let m4 = write_type3_generic(m3, octets, identifiers[3], d);
+        return m4.put(octets, NO_DIGITS.then(0, 1));
+    }
+    m.put(octets, NO_DIGITS.then(0, 1))
 }

@@ -1,6 +1,7 @@
 // U-LOCATION UPDATE DEMAND (EN 300 392-2, clause 16.9.3.4), as it is written.
 ghost use mathlib.Core.Path.{_≡_};
-ghost use mathlib.Core.Bool.{true};
+ghost use mathlib.Core.Bool.{true, false};
+ghost use mathlib.Core.List.{_∷_, _++_};
 ghost use Prim.Native.Nat.{_≤_};
 ghost use Rattle.bits.specs.Placed.{asPlace};
 ghost use Rattle.bits.specs.Written.{written, Holds};
@@ -10,7 +11,7 @@ ghost use Rattle.messages.specs.Questions.{allOf};
 ghost use Rattle.messages.specs.Demand.{demandMore, demandBits, demandAsked};
 ghost use Rattle.message_writers.specs.Writes.{writeMessage, Answered};
 ghost use Rattle.message_writers.specs.Parts.{fourAsked};
-ghost use Rattle.message_writers.specs.DemandParts.{demandHeadIn, demandGenericsIn, demandFront, demandFirst, demandHeadTests, demandOptionsTests, demandOptionsSize, demandBehind, DemandIs};
+ghost use Rattle.message_writers.specs.DemandParts.{demandHeadIn, demandGenericsIn, demandFront, demandFirst, demandHeadTests, demandOptionsTests, demandOptionsSize, demandOptionsParts, demandGenericsParts, demandBehind, DemandIs};
 use crate::parts::FourGenerics;
 use crate::parts::addresses;
 use crate::parts::ask_four;
@@ -188,31 +189,51 @@ fn ask(h: DemandHead, located: bool, location: LocationAsked, g: FourGenerics) -
     }
 }
 
-// The type 2 elements, the listed elements and the closing M-bit.
-fn put_behind(
+// The type 2 elements.
+fn put_options(m: Place, octets: &mut [u8], o: DemandOptions) -> Place
+    ensures { λ r. ⌜ Puts (demandOptionsParts o) (written (now (octets .entry)) (asPlace m)) (written (now (octets .exit)) (asPlace r)) ⌝ }
+{
+    let ssi = o.ssi;
+    let extension = o.address_extension;
+    let m1 = m.put(octets, first_options(o));
+    m1.put(octets, addresses(ssi, extension))
+}
+
+// The whole message, with a location demand.
+fn put_located(
     m: Place,
     octets: &mut [u8],
-    o: DemandOptions,
+    h: DemandHead,
     location: OptionalLocationDemand,
     asked: LocationAsked,
     g: FourGenerics,
 ) -> Place
     requires { ⌜ fourAsked g .fits ≡ true ⌝ }
-    ensures { λ r. ⌜ Puts (demandBehind o (asked .list) (asked .content) location g) (written (now (octets .entry)) (asPlace m)) (written (now (octets .exit)) (asPlace r)) ⌝ }
+    ensures { λ r. ⌜ Puts (demandFront h ∷ demandBehind (h .options) (asked .list) (asked .content) location g) (written (now (octets .entry)) (asPlace m)) (written (now (octets .exit)) (asPlace r)) ⌝ }
 {
-    let ssi = o.ssi;
-    let extension = o.address_extension;
-    let m1 = m.put(octets, first_options(o));
-    let m2 = m1.put(octets, addresses(ssi, extension));
+    let options = h.options;
+    let m1 = m.put(octets, front(h));
+    let m2 = put_options(m1, octets, options);
     let m3 = write_location_demand(m2, octets, location, asked.list, asked.content);
     write_four(m3, octets, GENERICS, g)
 }
 
-// The message, if it passes the questions; a refusal changes nothing.
-pub fn to_bitbuf(d: ULocationUpdateDemand, c: Cursor, octets: &mut [u8]) -> Place
+// The same without one: no list is looked at.
+fn put_unlocated(m: Place, octets: &mut [u8], h: DemandHead, g: FourGenerics) -> Place
+    requires { ⌜ fourAsked g .fits ≡ true ⌝ }
+    ensures { λ r. ⌜ Puts (demandFront h ∷ (demandOptionsParts (h .options) ++ demandGenericsParts g)) (written (now (octets .entry)) (asPlace m)) (written (now (octets .exit)) (asPlace r)) ⌝ }
+{
+    let options = h.options;
+    let m1 = m.put(octets, front(h));
+    let m2 = put_options(m1, octets, options);
+    write_four(m2, octets, GENERICS, g)
+}
+
+// A message with something behind the O-bit; its location demand is copied only where it is there, before anything is written.
+fn write_more(d: ULocationUpdateDemand, h: DemandHead, c: Cursor, octets: &mut [u8]) -> Place
+    requires { ⌜ (h ≡ demandHeadIn d) × (demandMore d ≡ true) ⌝ }
     ensures { λ r. ⌜ written (now (octets .exit)) (asPlace r) ≡ writeMessage (demandAsked d) (demandBits d) (now (octets .entry)) c ⌝ }
 {
-    let h = head_of(d);
     let g = generics_of(d);
     let location = d.group_identity_location_demand;
     let asked = ask_location_demand(location);
@@ -224,12 +245,49 @@ pub fn to_bitbuf(d: ULocationUpdateDemand, c: Cursor, octets: &mut [u8]) -> Plac
     };
     let n = answers.first_no(place.has(octets.len(), answers.size));
     if n == 0 {
-        let m = place.put(octets, front(h));
-        if h.obit == 1 {
-            let options = h.options;
-            return put_behind(m, octets, options, location, asked, g);
+        if location.present {
+            return put_located(place, octets, h, location, asked, g);
         }
-        return m;
+        return put_unlocated(place, octets, h, g);
     }
     place.refuse(n)
+}
+
+// A message that ends with its O-bit.
+fn write_alone(h: DemandHead, c: Cursor, octets: &mut [u8]) -> Place
+    ensures { λ r. ⌜ ((d : ULocationUpdateDemand) → h ≡ demandHeadIn d → demandMore d ≡ false → written (now (octets .exit)) (asPlace r) ≡ writeMessage (demandAsked d) (demandBits d) (now (octets .entry)) c) ⌝ }
+{
+    let ciphering = h.ciphering_parameters;
+    let answers = Answers {
+        fits: head_fits(h),
+        ciphered: ciphering.present == (h.cipher_control == 1),
+        attached: true,
+        formed: true,
+        alive: true,
+        saving: true,
+        type3_only: true,
+        short: true,
+        size: 10 + width_if(ciphering.present, 10),
+    };
+    let place = Place {
+        at: c.at,
+        end: c.end,
+        halt: 0,
+    };
+    let n = answers.first_no(place.has(octets.len(), answers.size));
+    if n == 0 {
+        return place.put(octets, front(h));
+    }
+    place.refuse(n)
+}
+
+// The message, if it passes the questions; a refusal changes nothing.
+pub fn to_bitbuf(d: ULocationUpdateDemand, c: Cursor, octets: &mut [u8]) -> Place
+    ensures { λ r. ⌜ written (now (octets .exit)) (asPlace r) ≡ writeMessage (demandAsked d) (demandBits d) (now (octets .entry)) c ⌝ }
+{
+    let h = head_of(d);
+    if h.obit == 1 {
+        return write_more(d, h, c, octets);
+    }
+    write_alone(h, c, octets)
 }

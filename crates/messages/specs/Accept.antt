@@ -8,11 +8,11 @@ use lib.ListN.{getD}
 use lib.Dec.{eqb}
 use Rattle.bits.specs.Bits.{Bits, digits}
 use Rattle.bits.specs.Reader.{Reader, got, _>>=_, field, pass}
-use Rattle.elements.specs.Numbers.{held, optionBits, optionAll, optionMap, inWidth, u64Of, inU64, SameU64, Same, flagWidth, type2, type2Bits, announced}
+use Rattle.elements.specs.Numbers.{held, optionAll, optionMap, inWidth, u64Of, inU64, SameU64, Same, flagWidth, type2, type2Bits, announced}
 use Rattle.elements.specs.EnergySaving.{energySaving, savingBits, savingFits, aliveHasNone, othersHaveBoth, savingNormal, SameSaving, savingOption}
 use Rattle.elements.specs.Generics.{type3Fits, type4Fits}
-use Rattle.elements.specs.Lists.{downlinks, listOne, listListed, listBits, listHeld}
-use Rattle.elements.specs.Locations.{locationAcceptFits, locationAcceptBits, locationAcceptNormal, SameLocationAccept}
+use Rattle.elements.specs.Lists.{downlinks, listOne, listListed}
+use Rattle.elements.specs.Locations.{lengthsFit, locationAcceptFits, locationAcceptBits, locationAcceptNormal, SameLocationAccept}
 use Rattle.elements.specs.TableWritten.{tableBits}
 use Rattle.elements.specs.Kinds.{Slot, row, genericType3, genericType4, ofLocationAccept, Element, isLocationAccept, heldElement, identifierOf, contentBits, type3Held, type3Slot, type3Option, SameType3, type4Held, type4Slot, type4Option, SameType4, locationAcceptOption}
 use Rattle.elements.specs.declared.energy_saving_information.EnergySavingInformation.{EnergySavingInformation}
@@ -21,7 +21,7 @@ use Rattle.elements.specs.declared.typed_pdu_fields.OptionalType3.{OptionalType
 use Rattle.elements.specs.declared.typed_pdu_fields.OptionalType4.{OptionalType4}
 use Rattle.elements.specs.declared.group_identity_location_accept.OptionalLocationAccept.{OptionalLocationAccept}
 use Rattle.messages.specs.Head.{pduTypeWidth, dLocationUpdateAccept, pduType, behindObit, layoutOptions, anyOf, anyPresent, updateTypeWidth, ssiWidth, extensionWidth}
-use Rattle.messages.specs.Questions.{Asked, allOf, lengthFits}
+use Rattle.messages.specs.Questions.{Asked, allOf}
 use Rattle.messages.specs.declared.d_location_update_accept.AcceptOptions.{AcceptOptions}
 use Rattle.messages.specs.declared.d_location_update_accept.AcceptHead.{AcceptHead}
 use Rattle.messages.specs.declared.d_location_update_accept.DLocationUpdateAccept.{DLocationUpdateAccept}
@@ -158,9 +158,7 @@ acceptAsked r = record {
   alive = optionAll aliveHasNone (savingIn r);
   saving = optionAll othersHaveBoth (savingIn r);
   type3Only = not (r .«new_registered_area» .present) && not (r .«group_identity_security_related_information» .present);
-  short =
-      optionAll (λ d. lengthFits (locationAcceptBits d) && lengthFits (optionBits (listBits downlinks) (listHeld downlinks (d .«group_identity_downlink»))))
-      (acceptLocationIn r);
+  short = optionAll (λ d. lengthsFit downlinks (locationAcceptBits d) (d .«group_identity_downlink»)) (acceptLocationIn r);
 }
 
 -- ## the normal form, and what is the same

@@ -10,14 +10,14 @@ use Rattle.bits.specs.Bits.{Bits, digits}
 use Rattle.bits.specs.Reader.{Reader, got, _>>=_, field, pass}
 use Rattle.elements.specs.Numbers.{optionBits, optionAll, optionMap, inWidth, flagWidth, announced}
 use Rattle.elements.specs.Generics.{type3Fits, type4Fits}
-use Rattle.elements.specs.Lists.{downlinks, listFits, listOne, listListed, listBits, listHeld, listNormal, SameList}
+use Rattle.elements.specs.Lists.{lengthFits, downlinks, listFits, listOne, listListed, listBits, listHeld, listNormal, SameList}
 use Rattle.elements.specs.TableWritten.{tableBits}
 use Rattle.elements.specs.Kinds.{Slot, row, genericType3, genericType4, ofDownlinks, Element, isDownlinks, heldElement, identifierOf, contentBits, type3Held, type3Slot, type3Option, SameType3, type4Held, type4Slot, type4Option, SameType4}
 use Rattle.elements.specs.declared.typed_pdu_fields.OptionalType3.{OptionalType3}
 use Rattle.elements.specs.declared.typed_pdu_fields.OptionalType4.{OptionalType4}
 use Rattle.elements.specs.declared.group_identity_downlink.OptionalDownlinks.{OptionalDownlinks}
 use Rattle.messages.specs.Head.{pduTypeWidth, dAttachDetachGroupIdentity, pduType, anyPresent}
-use Rattle.messages.specs.Questions.{Asked, allOf, lengthFits}
+use Rattle.messages.specs.Questions.{Asked, allOf}
 use Rattle.messages.specs.declared.d_attach_detach_group_identity.AttachDetachHead.{AttachDetachHead}
 use Rattle.messages.specs.declared.d_attach_detach_group_identity.DAttachDetachGroupIdentity.{DAttachDetachGroupIdentity}
 

@@ -1,17 +1,21 @@
 -- Laws of D-ATTACH/DETACH GROUP IDENTITY.
+use Prim.Native.Nat.{ℕ, _/_, _%_}
+use native.Mathlib.Nat.{div-one}
 use native.Mathlib.Omega.{arith}
-use mathlib.Core.Path.{_≡_, refl, ap}
+use mathlib.Core.Path.{_≡_, refl, sym, ap, _∙_}
 use mathlib.Core.Bool.{Bool, true, false}
 use mathlib.Core.Option.{Option}
-use mathlib.Core.List.{List, _++_, append-assoc}
-use lib.ListN.{length}
+use mathlib.Core.List.{List, [], _∷_, _++_, append-assoc}
+use lib.ListN.{length, getD}
 use lib.Dec.{eqb}
 use Rattle.bits.specs.Bits.{Bits, bit, digits}
 use Rattle.bits.specs.BitsLaws.{bit-lt}
-use Rattle.bits.specs.Reader.{got, Local}
-use Rattle.bits.specs.ReaderLaws.{local·rules, follows·rules, Follows, field-back}
+use Rattle.bits.specs.Reader.{Reader, got, then, _>>=_, field, Local}
+use Rattle.bits.specs.ReaderLaws.{then-then, then-same, local·rules, follows·rules, Follows, field-back}
 use Rattle.elements.specs.Numbers.{flagWidth}
 use Rattle.elements.specs.NumbersLaws.{number-back, one-bit, same-held, same-self}
+use Rattle.elements.specs.ClassOfMs.{numbers}
+use Rattle.elements.specs.ClassOfMsLaws.{sum, split, numbers-word}
 use Rattle.elements.specs.Generics.{noType3, noType4}
 use Rattle.elements.specs.Table.{Counted, counted, isListed}
 use Rattle.elements.specs.TableBack.{distinct, normalSlots}
@@ -29,6 +33,37 @@ use Rattle.messages.specs.Calls.{ofAttachDetach, attachDetachFormat}
 use Rattle.messages.specs.declared.d_attach_detach_group_identity.AttachDetachHead.{AttachDetachHead}
 use Rattle.messages.specs.declared.d_attach_detach_group_identity.DAttachDetachGroupIdentity.{DAttachDetachGroupIdentity}
 use Rattle.messages.specs.declared.Record.{Record}
+
+-- ## the head's four bits are one field
+
+-- the first of some numbers, and the others
+numbers-first : {B : Type 0} (w : ℕ) (ws : List ℕ) (f : List ℕ → Reader B) (bs : Bits)
+    → (numbers (w ∷ ws) >>= f) bs ≡ (field w >>= λ v. numbers ws >>= λ vs. f (v ∷ vs)) bs
+unfolding numbers
+numbers-first w ws f bs = then-then (field w bs) _ f ∙ then-same (field w bs) (λ v rest. then-then (numbers ws rest) _ f)
+
+abbrev flags : List ℕ
+flags = 1 ∷ 1 ∷ 1 ∷ 1 ∷ []
+
+abbrev ofFlags : List ℕ → AttachDetachHead
+ofFlags vs = attachDetachHeadOf (getD vs 0 0) (getD vs 1 0) (getD vs 2 0) (getD vs 3 0)
+
+flags-numbers : (bs : Bits) → (numbers flags >>= λ vs. got (ofFlags vs)) bs
+    ≡ (field flagWidth >>= λ r. field flagWidth >>= λ a. field flagWidth >>= λ m. field flagWidth >>= λ o. got (attachDetachHeadOf r a m o)) bs
+unfolding numbers
+flags-numbers bs =
+    numbers-first 1 (1 ∷ 1 ∷ 1 ∷ []) (λ vs. got (ofFlags vs)) bs
+    ∙ then-same (field 1 bs) (λ r cs. numbers-first 1 (1 ∷ 1 ∷ []) (λ vs. got (ofFlags (r ∷ vs))) cs
+    ∙ then-same (field 1 cs) (λ a ds. numbers-first 1 (1 ∷ []) (λ vs. got (ofFlags (r ∷ a ∷ vs))) ds
+    ∙ then-same (field 1 ds) (λ m es. numbers-first 1 [] (λ vs. got (ofFlags (r ∷ a ∷ m ∷ vs))) es)))
+
+pub flags-word : (bs : Bits)
+    → (field flagWidth >>= λ r. field flagWidth >>= λ a. field flagWidth >>= λ m. field flagWidth >>= λ o. got (attachDetachHeadOf r a m o)) bs
+    ≡ (field 4 >>= λ v. got (attachDetachHeadOf (v / 8 % 2) (v / 4 % 2) (v / 2 % 2) (v % 2))) bs
+unfolding sum split
+flags-word bs =
+    sym (flags-numbers bs) ∙ ap (λ x. then x (λ vs. got (ofFlags vs))) (numbers-word flags bs)
+    ∙ then-then (field 4 bs) _ _ ∙ then-same (field 4 bs) (λ v rest. rw (div-one v))
 
 -- ## local, and passed by the layout
 

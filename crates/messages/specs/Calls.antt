@@ -10,7 +10,7 @@ use Rattle.bits.specs.Bits.{Bits}
 use Rattle.bits.specs.Reader.{Answer, got, refused, Reader}
 use Rattle.bits.specs.Placed.{window}
 use Rattle.bits.specs.Written.{putBits}
-use Rattle.elements.specs.Table.{Counted}
+use Rattle.elements.specs.Table.{Counted, isListed}
 use Rattle.elements.specs.Kinds.{Slot, Element, identifierOf, content}
 use Rattle.messages.specs.Head.{uLocationUpdateDemand, dLocationUpdateAccept, dAttachDetachGroupIdentity}
 use Rattle.messages.specs.Format.{Format, message, Walked, walkMessage}
@@ -95,7 +95,7 @@ readMessage m = message identifierOf content (formatOf m)
 
 -- THE WALK over a message and the cut
 abbrev pub walkOver : Message → Bits → Walked
-walkOver m = walkMessage identifierOf content (formatOf m)
+walkOver m = walkMessage (isListed identifierOf (formatOf m .table)) (formatOf m .layout)
 
 -- the octets are few enough and the window lies inside them
 abbrev pub octetsMost : ℕ

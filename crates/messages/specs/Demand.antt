@@ -1,7 +1,7 @@
 -- U-LOCATION UPDATE DEMAND (EN 300 392-2, clause 16.9.3.4): how it is read and written, and what is asked of its record.
 use Prim.Native.Nat.{ℕ, _*_, _/_}
 use mathlib.Core.Path.{_≡_}
-use mathlib.Core.Bool.{Bool, true, _&&_, _||_, Bool·beq}
+use mathlib.Core.Bool.{Bool, true, _||_, Bool·beq}
 use mathlib.Core.Option.{Option, none}
 use mathlib.Core.List.{List, [], _∷_, _++_}
 use lib.ListN.{getD}
@@ -12,8 +12,8 @@ use Rattle.elements.specs.Numbers.{held, optionalNumber, optionBits, optionAll,
 use Rattle.elements.specs.ClassOfMs.{classOfMs, classBits, classFits, classOption}
 use Rattle.elements.specs.EnergySaving.{savingModeWidth}
 use Rattle.elements.specs.Generics.{type3Fits}
-use Rattle.elements.specs.Lists.{uplinks, listOne, listListed, listBits, listHeld}
-use Rattle.elements.specs.Locations.{locationDemandFits, locationDemandBits, locationDemandNormal, SameLocationDemand}
+use Rattle.elements.specs.Lists.{uplinks, listOne, listListed}
+use Rattle.elements.specs.Locations.{lengthsFit, locationDemandFits, locationDemandBits, locationDemandNormal, SameLocationDemand}
 use Rattle.elements.specs.TableWritten.{tableBits}
 use Rattle.elements.specs.Kinds.{Slot, row, genericType3, ofLocationDemand, Element, isLocationDemand, heldElement, identifierOf, contentBits, type3Held, type3Slot, type3Option, SameType3, locationDemandOption}
 use Rattle.elements.specs.declared.class_of_ms.ClassOfMs.{ClassOfMs}
@@ -21,7 +21,7 @@ use Rattle.elements.specs.declared.group_identity_location_demand.GroupIdentity
 use Rattle.elements.specs.declared.typed_pdu_fields.OptionalType3.{OptionalType3}
 use Rattle.elements.specs.declared.group_identity_location_demand.OptionalLocationDemand.{OptionalLocationDemand}
 use Rattle.messages.specs.Head.{pduTypeWidth, uLocationUpdateDemand, pduType, behindObit, passIf, layoutOptions, anyOf, anyPresent, updateTypeWidth, ssiWidth, extensionWidth}
-use Rattle.messages.specs.Questions.{Asked, allOf, lengthFits}
+use Rattle.messages.specs.Questions.{Asked, allOf}
 use Rattle.messages.specs.declared.u_location_update_demand.DemandOptions.{DemandOptions}
 use Rattle.messages.specs.declared.u_location_update_demand.DemandHead.{DemandHead}
 use Rattle.messages.specs.declared.u_location_update_demand.ULocationUpdateDemand.{ULocationUpdateDemand}
@@ -167,7 +167,7 @@ demandAsked r = record {
   alive = true;
   saving = true;
   type3Only = true;
-  short = optionAll (λ d. lengthFits (locationDemandBits d) && lengthFits (optionBits (listBits uplinks) (listHeld uplinks (d .«group_identity_uplink»)))) (locationIn r);
+  short = optionAll (λ d. lengthsFit uplinks (locationDemandBits d) (d .«group_identity_uplink»)) (locationIn r);
 }
 
 -- ## the normal form, and what is the same

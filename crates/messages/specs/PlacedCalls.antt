@@ -12,6 +12,7 @@ use borrow.Author.Tests.{leb-true}
 use Rattle.bits.specs.PduParseError.{badCall}
 use Rattle.bits.specs.Bits.{Bits}
 use Rattle.bits.specs.Reader.{Answer, got, refused}
+use Rattle.bits.specs.ReaderLaws.{zero-one}
 use Rattle.bits.specs.Placed.{window, Placed, placed, halted, at, refusal}
 use Rattle.bits.specs.PlacedLaws.{told, told-not, length-window}
 use Rattle.bits.specs.declared.bitbuffer.Cursor.{Cursor}
@@ -40,7 +41,7 @@ abbrev pub called : Message → Bool → List ℕ → ℕ → ℕ → Reading
 called m skipping os first end = readingOf first (length (windowOf os first end)) (readMessage m skipping (windowOf os first end))
 
 count-refused : {B : Type 0} {n k : ℕ} {c : Cursor} → S.Count n c ≡ S.Refused k → B
-count-refused e = let z : _≡_ {A = ℕ} 0 1 = cc in absurd (omega arith)
+count-refused e = zero-one (cc)
 
 module _ (m : Message) where
   -- what holds of each record that is made of a head and slots holds of each record that is read
@@ -111,6 +112,15 @@ module _ (m how : ℕ) (os : List ℕ) (first end : ℕ) where
   unfolding reading
   bad-call g = rw g
 
+  -- A GOOD CALL, by the verdict of the message's reader
+  module _ {X R : Type 0} {f : Placed (Counted Record) → X} {verdict : X → Skipped} {own : X → R} {of : R → Record} (o : Own (messageOf m) f verdict own of)
+      (good : goodCall m how (length os) first end ≡ true) {y : X} (e : y ≡ f (at (readMessage (messageOf m) (eqb how 1)) os (record { at = first; end = end }))) where
+    pub call-taken : {n : ℕ} {k : Cursor} → verdict y ≡ S.Count n k → accepted first n k (of (own y)) ≡ reading m how os first end
+    call-taken v = taken (messageOf m) o (eqb how 1) os _ e v .answer ∙ good-call (messageOf m) refl good
+
+    pub call-refused : {i n : ℕ} → verdict y ≡ S.Refused i → n ≡ refusal (asSkipped (verdict y)) → noReading n first ≡ reading m how os first end
+    call-refused v number = not-taken (messageOf m) o (eqb how 1) os _ e v number ∙ good-call (messageOf m) refl good
+
   -- the window of a good call lies inside the octets, which are few
   pub good-window : goodCall m how (length os) first end ≡ true → (first ≤ end) × (end ≤ 8 * length os) × (length os ≤ octetsMost)
   unfolding goodCall goodWindow
@@ -145,12 +155,3 @@ module _ (m how : ℕ) (os : List ℕ) (first end : ℕ) where
 
   pub behind-refused : {r : Reading} {n : ℕ} → r ≡ reading m how os first end → r .verdict ≡ Refused n → os ≡ behind (reading m how os first end) os
   behind-refused e v = rw (← e) (rw v)
-
--- ## a fact with its statement, so that a proof names it once and its needs cite it
-
-pub record Fact : Type 1 where
-  pub Said : Type 0
-  pub holds : Said
-
-abbrev pub fact : {A : Type 0} → A → Fact
-fact {A} h = record { Said = A; holds = h }

@@ -12,7 +12,7 @@ use Rattle.bits.specs.Bits.{Bits, bitsOf}
 use Rattle.bits.specs.Reader.{got}
 use Rattle.bits.specs.Placed.{window}
 use Rattle.bits.specs.Written.{putBits}
-use Rattle.bits.specs.WrittenLaws.{Writes, window-written, kept-before, kept-behind, length-putBits}
+use Rattle.bits.specs.WrittenLaws.{Writes, window-written, kept-before, kept-behind, length-kept}
 use Rattle.elements.specs.Table.{counted}
 use Rattle.elements.specs.Kinds.{identifierOf, content}
 use Rattle.elements.specs.NumbersLaws.{both}
@@ -150,7 +150,7 @@ round-trip m os first end r n ar e =
     record { room = omega arith; octets = t .octets; next = refl } in
     let exact : Writes ys os (record { at = first; end = first + n }) os′ (record { at = first + length ys; end = first + n }) =
     record { room = omega arith; octets = t .octets; next = refl } in
-    let same-length : length os′ ≡ length os = ap length (t .octets) ∙ length-putBits os first ys in
+    let same-length : length os′ ≡ length os = length-kept wrote in
     let good : goodWindow (length os′) first end ≡ true = rw same-length (t .inside) in
     let good-exact : goodWindow (length os′) first (first + n) ≡ true =
     rw (same-length, window-is (length os) first (first + n), le-leb (length os) octetsMost few, le-leb first (first + n) (omega arith), le-leb (first + n) (8 * length os) (omega arith)) in

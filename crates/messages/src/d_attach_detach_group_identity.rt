@@ -1,9 +1,8 @@
 // D-ATTACH/DETACH GROUP IDENTITY (EN 300 392-2, clause 16.9.2.1).
 ghost use mathlib.Core.Path.{_≡_};
 ghost use Rattle.bits.specs.Placed.{at, refusal, halted};
-ghost use mathlib.Core.Bool.{true};
 ghost use Rattle.elements.specs.Kinds.{identifierOf, content};
-ghost use Rattle.messages.specs.Format.{body, message};
+ghost use Rattle.messages.specs.Format.{message};
 ghost use Rattle.messages.specs.AttachDetach.{attachDetachHead};
 ghost use Rattle.messages.specs.Calls.{noAttachDetach, attachDetachFormat};
 ghost use Rattle.messages.specs.MessageAnswers.{asAttachDetachHead, attachDetachFrom, attachDetachAnswer};
@@ -71,7 +70,7 @@ impl AttachDetachHeadRead {
     }
 }
 
-// The type and the fields up to the O-bit, and the O-bit.
+// The type, and the four bits behind it as one field: those up to the O-bit, and the O-bit.
 fn read_head(c: Cursor, octets: &[u8]) -> AttachDetachHeadRead
     ensures { λ r. ⌜ asAttachDetachHead r ≡ at attachDetachHead (now (octets .entry)) c ⌝ }
 {
@@ -80,30 +79,18 @@ fn read_head(c: Cursor, octets: &[u8]) -> AttachDetachHeadRead
         return AttachDetachHeadRead::Refused(t.refusal());
     };
     if pdu_type == D_ATTACH_DETACH_GROUP_IDENTITY {
-        let r = c1.read_u8(octets, 1);
-        let Field8::Value(report, c2) = r else {
-            return AttachDetachHeadRead::Refused(r.refusal());
-        };
-        let a = c2.read_u8(octets, 1);
-        let Field8::Value(acknowledgement, c3) = a else {
-            return AttachDetachHeadRead::Refused(a.refusal());
-        };
-        let m = c3.read_u8(octets, 1);
-        let Field8::Value(mode, c4) = m else {
-            return AttachDetachHeadRead::Refused(m.refusal());
-        };
-        let o = c4.read_u8(octets, 1);
-        let Field8::Value(obit, c5) = o else {
-            return AttachDetachHeadRead::Refused(o.refusal());
+        let f = c1.read_u8(octets, 4);
+        let Field8::Value(v, c2) = f else {
+            return AttachDetachHeadRead::Refused(f.refusal());
         };
         return AttachDetachHeadRead::Read(
             AttachDetachHead {
-                group_identity_report: report,
-                group_identity_acknowledgement_request: acknowledgement,
-                group_identity_attach_detach_mode: mode,
-                obit: obit,
+                group_identity_report: v / 8 % 2,
+                group_identity_acknowledgement_request: v / 4 % 2,
+                group_identity_attach_detach_mode: v / 2 % 2,
+                obit: v % 2,
             },
-            c5,
+            c2,
         );
     }
     AttachDetachHeadRead::Refused(INVALID_PDU_TYPE)
@@ -131,13 +118,18 @@ fn record_of(
 ) -> DAttachDetachGroupIdentity
     ensures { λ r. ⌜ r ≡ attachDetachFrom head list generics ⌝ }
 {
+    let groups = list.groups;
     DAttachDetachGroupIdentity {
         group_identity_report: head.group_identity_report,
         group_identity_acknowledgement_request: head.group_identity_acknowledgement_request,
         group_identity_attach_detach_mode: head.group_identity_attach_detach_mode,
         proprietary: type3_of(generics[0]),
         group_report_response: type3_of(generics[1]),
-        group_identity_downlink: list,
+        group_identity_downlink: OptionalDownlinks {
+            present: list.present,
+            count: list.count,
+            groups: groups,
+        },
         group_identity_security_related_information: type4_of(generics[3]),
     }
 }
@@ -184,56 +176,46 @@ fn refused(n: u8) -> AttachDetachRead
     }
 }
 
-// The listed elements, up to the closing M-bit.
-fn read_elements(
-    c: Cursor,
-    octets: &[u8],
-    head: AttachDetachHead,
-    skipping: bool,
-) -> AttachDetachRead
-    ensures { λ r. ⌜ r ≡ attachDetachAnswer (at (body identifierOf content attachDetachFormat skipping head true) (now (octets .entry)) c) ⌝ }
-{
-    let a = scan_part(c, octets, TABLE, 0, 2, false, skipping, NO_GENERICS);
-    let v = a.verdict;
-    let Moved::To(c1) = v else {
-        return refused(v.refusal());
-    };
-    let d = read_downlinks_slot(c1, octets, true, GROUP_IDENTITY_DOWNLINK);
-    let w = d.verdict;
-    let Moved::To(c2) = w else {
-        return refused(w.refusal());
-    };
-    let front = a.slots;
-    let before = front.generics;
-    let b = scan_part(c2, octets, TABLE, 3, 4, true, skipping, before);
-    let x = b.verdict;
-    let Moved::To(c3) = x else {
-        return refused(x.refusal());
-    };
-    let back = b.slots;
-    let generics = back.generics;
-    let list = d.list;
-    AttachDetachRead {
-        verdict: Skipped::Count(front.skipped + back.skipped, c3),
-        record: record_of(head, list, generics),
-    }
-}
-
 impl DAttachDetachGroupIdentity {
-    // The message: its head, and behind an O-bit of 1 its listed elements, if there are any.
+    // The message: its head, and behind an O-bit of 1 its listed elements, if there are any. The table is laid out before the
+    // head is read: what was stored just before a call is slow to copy.
     pub fn from_bitbuf(c: Cursor, octets: &[u8], skipping: bool) -> AttachDetachRead
         ensures { λ r. ⌜ r ≡ attachDetachAnswer (at (message identifierOf content attachDetachFormat skipping) (now (octets .entry)) c) ⌝ }
     {
+        let table = TABLE;
         let h = read_head(c, octets);
-        let AttachDetachHeadRead::Read(head, c1) = h else {
+        let AttachDetachHeadRead::Read(head, c0) = h else {
             return refused(h.refusal());
         };
-        let e = read_empty_table(c1, octets, head.obit == 1);
-        let Moved::To(c2) = e else {
-            return read_elements(c1, octets, head, skipping);
+        let e = read_empty_table(c0, octets, head.obit == 1);
+        let Moved::To(c4) = e else {
+            let a = scan_part(c0, octets, table, 0, 2, false, skipping, NO_GENERICS);
+            let v = a.verdict;
+            let Moved::To(c1) = v else {
+                return refused(v.refusal());
+            };
+            let d = read_downlinks_slot(c1, octets, true, GROUP_IDENTITY_DOWNLINK);
+            let w = d.verdict;
+            let Moved::To(c2) = w else {
+                return refused(w.refusal());
+            };
+            let front = a.slots;
+            let before = front.generics;
+            let b = scan_part(c2, octets, table, 3, 4, true, skipping, before);
+            let x = b.verdict;
+            let Moved::To(c3) = x else {
+                return refused(x.refusal());
+            };
+            let back = b.slots;
+            let generics = back.generics;
+            let list = d.list;
+            return AttachDetachRead {
+                verdict: Skipped::Count(front.skipped + back.skipped, c3),
+                record: record_of(head, list, generics),
+            };
         };
         AttachDetachRead {
-            verdict: Skipped::Count(0, c2),
+            verdict: Skipped::Count(0, c4),
             record: record_of(head, no_downlinks(), NO_GENERICS),
         }
     }

@@ -25,7 +25,7 @@ use tetra_pdus::mm::pdus::d_location_update_accept::DLocationUpdateAccept;
 use tetra_pdus::mm::pdus::u_location_update_demand::ULocationUpdateDemand;
 
 use crate::flat::Flat;
-use crate::writing::Writing;
+use crate::writing::{Writing, Writings};
 
 /// Our answer, with room for the record of any message.
 #[repr(C)]
@@ -71,27 +71,35 @@ reading!(measure_accept);
 reading!(measure_attach_detach);
 
 macro_rules! writing {
-    ($name:ident, $words:expr) => {
+    ($once:ident, $often:ident, $words:expr) => {
         unsafe extern "C" {
-            fn $name(
+            fn $once(
                 record: Own<$words>,
                 octets: *mut u8,
                 octets_len: usize,
                 first: usize,
                 end: usize,
             ) -> u64;
+            fn $often(
+                record: Own<$words>,
+                octets: *mut u8,
+                octets_len: usize,
+                first: usize,
+                end: usize,
+                times: usize,
+            ) -> u64;
         }
     };
 }
 
-writing!(measure_write_demand, 187);
-writing!(measure_write_accept, 195);
-writing!(measure_write_attach_detach, 171);
+writing!(measure_write_demand, measure_writes_demand, 187);
+writing!(measure_write_accept, measure_writes_accept, 195);
+writing!(measure_write_attach_detach, measure_writes_attach_detach, 171);
 
 const STRICT: u64 = 0;
 const ROUNDS: usize = 400;
 /// The messages of a round.
-const TIMES: usize = 500;
+pub const TIMES: usize = 500;
 
 pub trait Message: Flat + Sized {
     /// The message's type number.
@@ -100,6 +108,7 @@ pub trait Message: Flat + Sized {
     /// The message's own record in our layout.
     type Own: Copy;
     const OUR_WRITING: Writing<Self::Own>;
+    const OUR_WRITINGS: Writings<Self::Own>;
 
     fn read(buffer: &mut BitBuffer) -> Result<Self, PduParseErr>;
 
@@ -107,12 +116,13 @@ pub trait Message: Flat + Sized {
 }
 
 macro_rules! message {
-    ($record:ty, $number:expr, $ours:expr, $our_writing:expr, $words:expr) => {
+    ($record:ty, $number:expr, $ours:expr, $our_writing:expr, $our_writings:expr, $words:expr) => {
         impl Message for $record {
             const NUMBER: u64 = $number;
             const OURS: Reading = $ours;
             type Own = Own<$words>;
             const OUR_WRITING: Writing<Self::Own> = $our_writing;
+            const OUR_WRITINGS: Writings<Self::Own> = $our_writings;
 
             fn read(buffer: &mut BitBuffer) -> Result<Self, PduParseErr> {
                 Self::from_bitbuf(buffer)
@@ -125,9 +135,30 @@ macro_rules! message {
     };
 }
 
-message!(ULocationUpdateDemand, 2, measure_demand, measure_write_demand, 187);
-message!(DLocationUpdateAccept, 5, measure_accept, measure_write_accept, 195);
-message!(DAttachDetachGroupIdentity, 10, measure_attach_detach, measure_write_attach_detach, 171);
+message!(
+    ULocationUpdateDemand,
+    2,
+    measure_demand,
+    measure_write_demand,
+    measure_writes_demand,
+    187
+);
+message!(
+    DLocationUpdateAccept,
+    5,
+    measure_accept,
+    measure_write_accept,
+    measure_writes_accept,
+    195
+);
+message!(
+    DAttachDetachGroupIdentity,
+    10,
+    measure_attach_detach,
+    measure_write_attach_detach,
+    measure_writes_attach_detach,
+    171
+);
 
 /// What a table times.
 pub trait Table {
@@ -166,20 +197,35 @@ fn line<T: Table, M: Message>(name: &str, groups: impl ToString, record: M) -> V
 }
 
 pub fn fastest<A, B>(mut original: impl FnMut() -> A, mut ours: impl FnMut() -> B) -> (f64, f64) {
+    fastest_rounds(|| timed(&mut original), || timed(&mut ours))
+}
+
+/// The fastest of many rounds of both, a round giving its nanoseconds per call.
+pub fn fastest_rounds(
+    mut original: impl FnMut() -> f64,
+    mut ours: impl FnMut() -> f64,
+) -> (f64, f64) {
     let mut best = (f64::MAX, f64::MAX);
     for _ in 0..ROUNDS {
-        best.0 = best.0.min(timed(&mut original));
-        best.1 = best.1.min(timed(&mut ours));
+        best.0 = best.0.min(original());
+        best.1 = best.1.min(ours());
     }
     best
 }
 
-/// Nanoseconds per call.
-fn timed<T>(mut call: impl FnMut() -> T) -> f64 {
+/// A round of single calls.
+pub fn timed<T>(mut call: impl FnMut() -> T) -> f64 {
+    round(|| {
+        for _ in 0..TIMES {
+            black_box(&call());
+        }
+    })
+}
+
+/// Nanoseconds per call of `TIMES` calls.
+pub fn round(calls: impl FnOnce()) -> f64 {
     let start = Instant::now();
-    for _ in 0..TIMES {
-        black_box(&call());
-    }
+    calls();
     start.elapsed().as_nanos() as f64 / TIMES as f64
 }
 

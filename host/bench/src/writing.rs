@@ -7,7 +7,9 @@ use std::hint::black_box;
 
 use tetra_core::BitBuffer;
 
-use crate::messages::{Message, Table, fastest, our_read, our_record};
+use crate::messages::{
+    Message, TIMES, Table, fastest, fastest_rounds, our_read, our_record, round, timed,
+};
 
 /// Our writing call of one message's own record: the number of bits written, 0 with a refusal.
 pub type Writing<R> = unsafe extern "C" fn(
@@ -16,6 +18,16 @@ pub type Writing<R> = unsafe extern "C" fn(
     octets_len: usize,
     first: usize,
     end: usize,
+) -> u64;
+
+/// The same, so many times in a row: each turn is a writing call of its own, to which the record goes as Rattle passes it.
+pub type Writings<R> = unsafe extern "C" fn(
+    record: R,
+    octets: *mut u8,
+    octets_len: usize,
+    first: usize,
+    end: usize,
+    times: usize,
 ) -> u64;
 
 /// Octets behind the message, which must stay.
@@ -56,10 +68,12 @@ impl Table for FromRecord {
         let bits = our_write::<M>(&own, &mut outputs.ours);
         assert_eq!(bits, end as u64, "ours refused or wrote otherwise");
         outputs.assert_equal(octets, end);
-        fastest(
-            || original_write(&record, black_box(&mut outputs.original)),
-            || our_write::<M>(&own, black_box(&mut outputs.ours)),
-        )
+        let times = fastest_rounds(
+            || timed(|| original_write(&record, black_box(&mut outputs.original))),
+            || round(|| our_writes::<M>(&own, black_box(&mut outputs.ours), end)),
+        );
+        outputs.assert_equal(octets, end);
+        times
     }
 }
 
@@ -95,6 +109,14 @@ fn original_rewrite<M: Message>(buffer: &mut BitBuffer, out: &mut BitBuffer) {
 fn our_write<M: Message>(own: &M::Own, out: &mut [u8]) -> u64 {
     // SAFETY: the record is one of this message, and the pointer and the length are one slice's.
     unsafe { (M::OUR_WRITING)(*own, out.as_mut_ptr(), out.len(), 0, 8 * out.len()) }
+}
+
+fn our_writes<M: Message>(own: &M::Own, out: &mut [u8], end: usize) {
+    // SAFETY: as above.
+    let bits = unsafe {
+        (M::OUR_WRITINGS)(*own, out.as_mut_ptr(), out.len(), 0, 8 * out.len(), black_box(TIMES))
+    };
+    assert_eq!(bits, end as u64, "ours refused or wrote otherwise");
 }
 
 fn our_rewrite<M: Message>(octets: &[u8], end: usize, out: &mut [u8]) -> u64 {

@@ -2,7 +2,8 @@
 use native.Mathlib.Omega.{arith}
 use denote.Ref.{now}
 use Rattle.messages.specs.Calls.{accept}
-use Rattle.messages.specs.PlacedCalls.{own-accept, Fact, fact}
+use Rattle.bits.specs.PlacedLaws.{Fact, fact}
+use Rattle.messages.specs.PlacedCalls.{own-accept}
 use Rattle.exports.specs.ReadLaws.{filled-refused, filled-read}
 use borrow.Author.Needs.{needs}
 use Rattle.exports.proofs.accept_into.Statement.{statement}

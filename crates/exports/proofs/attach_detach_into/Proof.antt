@@ -2,7 +2,8 @@
 use native.Mathlib.Omega.{arith}
 use denote.Ref.{now}
 use Rattle.messages.specs.Calls.{attachDetach}
-use Rattle.messages.specs.PlacedCalls.{own-attach-detach, Fact, fact}
+use Rattle.bits.specs.PlacedLaws.{Fact, fact}
+use Rattle.messages.specs.PlacedCalls.{own-attach-detach}
 use Rattle.exports.specs.ReadLaws.{filled-refused, filled-read}
 use borrow.Author.Needs.{needs}
 use Rattle.exports.proofs.attach_detach_into.Statement.{statement}

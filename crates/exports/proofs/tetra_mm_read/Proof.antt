@@ -3,7 +3,7 @@ use mathlib.Core.Path.{sym, _∙_}
 use denote.Ref.{now}
 use borrow.Author.Tests.{eq-eqb, ne-eqb}
 use Rattle.messages.specs.Calls.{demand, accept, attachDetach}
-use Rattle.messages.specs.PlacedCalls.{Fact, fact}
+use Rattle.bits.specs.PlacedLaws.{Fact, fact}
 use Rattle.exports.specs.ReadLaws.{bad-read, good-read}
 use borrow.Author.Needs.{needs}
 use Rattle.exports.proofs.tetra_mm_read.Statement.{statement}

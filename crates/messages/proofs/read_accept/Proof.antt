@@ -2,7 +2,8 @@
 use mathlib.Core.Path.{_∙_}
 use denote.Ref.{now}
 use Rattle.messages.specs.Calls.{accept}
-use Rattle.messages.specs.PlacedCalls.{taken, not-taken, own-accept, Fact, fact}
+use Rattle.bits.specs.PlacedLaws.{Fact, fact}
+use Rattle.messages.specs.PlacedCalls.{taken, not-taken, own-accept}
 use borrow.Author.Needs.{needs}
 use Rattle.messages.proofs.read_accept.Statement.{statement}
 use Rattle.messages.proofs.read_accept.Tie as tie

@@ -2,7 +2,8 @@
 use mathlib.Core.Path.{_∙_}
 use denote.Ref.{now}
 use Rattle.messages.specs.Calls.{attachDetach}
-use Rattle.messages.specs.PlacedCalls.{taken, not-taken, own-attach-detach, Fact, fact}
+use Rattle.bits.specs.PlacedLaws.{Fact, fact}
+use Rattle.messages.specs.PlacedCalls.{taken, not-taken, own-attach-detach}
 use borrow.Author.Needs.{needs}
 use Rattle.messages.proofs.read_attach_detach.Statement.{statement}
 use Rattle.messages.proofs.read_attach_detach.Tie as tie

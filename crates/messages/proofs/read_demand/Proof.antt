@@ -2,7 +2,8 @@
 use mathlib.Core.Path.{_∙_}
 use denote.Ref.{now}
 use Rattle.messages.specs.Calls.{demand}
-use Rattle.messages.specs.PlacedCalls.{taken, not-taken, own-demand, Fact, fact}
+use Rattle.bits.specs.PlacedLaws.{Fact, fact}
+use Rattle.messages.specs.PlacedCalls.{taken, not-taken, own-demand}
 use borrow.Author.Needs.{needs}
 use Rattle.messages.proofs.read_demand.Statement.{statement}
 use Rattle.messages.proofs.read_demand.Tie as tie

@@ -2,7 +2,7 @@
 use mathlib.Core.Path.{ap}
 use Rattle.bits.specs.ReaderLaws.{local-tail}
 use Rattle.bits.specs.Placed.{asField8}
-use Rattle.bits.specs.PlacedLaws.{so, by, by-refusal, stop}
+use Rattle.bits.specs.PlacedLaws.{so, by, by-refusal, stop, Fact, fact}
 use Rattle.bits.specs.Reader.{word}
 use Rattle.elements.specs.Groups.{attachmentInfo}
 use Rattle.elements.specs.GroupsLaws.{attachmentInfo-local}
@@ -11,6 +11,10 @@ use Rattle.elements.specs.PlacedOptional.{wanted-refused, wanted-read, u
 use borrow.Author.Needs.{needs}
 use Rattle.elements.proofs.group_identity_attachment.read_optional_attachment.Statement.{statement}
 use Rattle.elements.proofs.group_identity_attachment.read_optional_attachment.Tie as tie
+
+-- the lifetime is read
+abbrev lifetime : tie.After-l → Fact
+lifetime l = fact (by (l .before .before .read-u8 .ensures) (ap asField8 (l .l .given .1)))
 
 read-u8-requires : tie.Need-read-u8-requires
 read-u8-requires c κs = search needs
@@ -47,7 +51,7 @@ returns-2 c =
     so
     (wanted-refused _ _ _ (c .before .before .before .before .before .before .before .before .if1 .taken)
     (no-class
-    (by (c .before .before .before .before .before .before .before .read-u8 .ensures) (ap asField8 (c .before .before .before .before .before .l .given .1)))
+    (lifetime (c .before .before .before .before .before) .holds)
     (by-refusal (c .before .before .before .read-u82 .ensures) (ap asField8 (c .before .enum-told2 .given .1)) (c .refusal2 .ensures))))
 
 returns-3 : tie.Need-returns-3
@@ -56,7 +60,7 @@ returns-3 c =
     so
     (wanted-read _ _ _ (c .before .before .before .before .before .before .before .before .if1 .taken) (local-tail attachmentInfo-local)
     (whole-attachment
-    (by (c .before .before .before .before .before .before .before .read-u8 .ensures) (ap asField8 (c .before .before .before .before .before .l .given .1)))
+    (lifetime (c .before .before .before .before .before) .holds)
     (by (c .before .before .before .read-u82 .ensures) (ap asField8 (c .before .u .given .1)))))
 
 returns-4 : tie.Need-returns-4

@@ -5,7 +5,7 @@ use Prim.Native.Nat.{_-_}
 use mathlib.Core.Path.{ap}
 use borrow.Author.Needs.{needs}
 use Rattle.bits.specs.Placed.{placed}
-use Rattle.bits.specs.PlacedLaws.{Gives, by, by-refusal}
+use Rattle.bits.specs.PlacedLaws.{Gives, by, by-refusal, Fact, fact}
 use Rattle.elements.specs.Lists.{downlinks}
 use Rattle.elements.specs.ListsLaws.{downlinks-sound}
 use Rattle.elements.specs.Fronts.{listFront, asListFront}
@@ -25,6 +25,10 @@ abbrev μ-loop : tie.MeasureT-loop
 fronted : (c : tie.After-l Inv-loop μ-loop) → let a = c .before .before .before .before .args in
     Gives (listFront (a .identifier) (a .there)) (a .octets .now) (a .c) (placed (c .l .given .0 .0) (c .l .given .0 .1 .0))
 fronted c = by (c .before .before .read-list-front .ensures) (ap asListFront (c .l .given .1))
+
+-- in the loop: there is room for as many groups as the front counts
+abbrev room : tie.After-f Inv-loop μ-loop → Fact
+room f = fact (few downlinks-sound _ _ (fronted (f .before .before .before .before .before .before .before)) (f .before .before .before .before .before .loop .inv))
 
 read-list-front-requires : tie.Need-read-list-front-requires Inv-loop μ-loop
 read-list-front-requires c κs = search needs
@@ -72,15 +76,15 @@ returns-2 c =
 
 mul-groups : tie.Need-mul-groups Inv-loop μ-loop
 mul-groups c =
-    omega (arith, few downlinks-sound _ _ (fronted (c .before .before .before .before .before .before .before .before)) (c .before .before .before .before .before .before .loop .inv))
+    omega (arith, room (c .before) .holds)
 
 array-set-from-groups : tie.Need-array-set-from-groups Inv-loop μ-loop
 array-set-from-groups c =
-    omega (arith, few downlinks-sound _ _ (fronted (c .before .before .before .before .before .before .before .before)) (c .before .before .before .before .before .before .loop .inv))
+    omega (arith, room (c .before) .holds)
 
 add-i : tie.Need-add-i Inv-loop μ-loop
 add-i c =
-    omega (arith, few downlinks-sound _ _ (fronted (c .before .before .before .before .before .before .before .before)) (c .before .before .before .before .before .before .loop .inv))
+    omega (arith, room (c .before) .holds)
 
 loop-less : tie.Need-loop-less Inv-loop μ-loop
 loop-less c = search needs

@@ -4,13 +4,17 @@ use borrow.Author.Needs.{needs}
 use Rattle.bits.specs.Reader.{word}
 use Rattle.bits.specs.ReaderLaws.{local·rules}
 use Rattle.bits.specs.Placed.{asField, asField32}
-use Rattle.bits.specs.PlacedLaws.{by, by-refusal, step, stop, done}
+use Rattle.bits.specs.PlacedLaws.{by, by-refusal, step, stop, done, Fact, fact}
 use Rattle.elements.specs.Generics.{type3}
 use Rattle.elements.specs.GenericsLaws.{kept-local}
 use Rattle.elements.specs.Answers.{genericAnswer}
 use Rattle.elements.specs.Verdicts.{answer}
 use Rattle.elements.proofs.typed_pdu_fields.parse_type3_generic.Statement.{statement}
 use Rattle.elements.proofs.typed_pdu_fields.parse_type3_generic.Tie as tie
+
+-- the length is read
+abbrev size : tie.After-f → Fact
+size f = fact (by (f .before .before .read-u32 .ensures) (ap asField32 (f .f .given .1)))
 
 read-u32-requires : tie.Need-read-u32-requires
 read-u32-requires c κs = search needs
@@ -48,14 +52,14 @@ returns-2 : tie.Need-returns-2
 unfolding type3 word
 returns-2 c =
     answer genericAnswer
-    (step _ (by (c .before .before .before .before .before .before .before .read-u32 .ensures) (ap asField32 (c .before .before .before .before .before .f .given .1))) (search local·rules)
+    (step _ (size (c .before .before .before .before .before) .holds) (search local·rules)
     (stop _ (stop _ (by-refusal (c .before .before .before .read-kept .ensures) (ap asField (c .before .enum-told2 .given .1)) (c .refusal2 .ensures)))))
 
 returns-3 : tie.Need-returns-3
 unfolding type3 word
 returns-3 c =
     answer genericAnswer
-    (step _ (by (c .before .before .before .before .before .before .before .read-u32 .ensures) (ap asField32 (c .before .before .before .before .before .f .given .1))) (search local·rules)
+    (step _ (size (c .before .before .before .before .before) .holds) (search local·rules)
     (step _ (step _ (by (c .before .before .before .read-kept .ensures) (ap asField (c .before .d .given .1))) (search (local·rules, kept-local)) done) (search (local·rules, kept-local)) done))
 
 pub parse-type3-generic-spec : {M : Type 1} → statement M

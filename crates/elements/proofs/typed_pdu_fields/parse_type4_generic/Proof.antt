@@ -11,27 +11,23 @@ use Rattle.bits.specs.PlacedLaws.{Gives, by, by-refusal, step, stop, done}
 use Rattle.bits.specs.PlacedTimes.{alike}
 use Rattle.bits.specs.declared.bitbuffer.Cursor.{Cursor}
 use Rattle.elements.specs.Table.{lengthWidth}
-use Rattle.elements.specs.Generics.{entriesWidth, entries, kept, type4}
+use Rattle.elements.specs.Generics.{entriesWidth, entries, keptEntries, type4}
 use Rattle.elements.specs.GenericsLaws.{kept-local}
 use Rattle.elements.specs.Rows.{sized, fromType4, genericType4At}
 use Rattle.elements.specs.PlacedLists.{entries-unnumbered, entries-underflow, entries-there, entries-made}
 use Rattle.elements.specs.Answers.{genericAnswer}
 use Rattle.elements.specs.Verdicts.{answer}
 use Rattle.elements.specs.declared.typed_pdu_fields.Generic.{Generic}
-use Rattle.elements.specs.declared.typed_pdu_fields.Type4FieldGeneric.{Type4FieldGeneric}
 use Rattle.elements.proofs.typed_pdu_fields.parse_type4_generic.Statement.{statement}
 use Rattle.elements.proofs.typed_pdu_fields.parse_type4_generic.Tie as tie
 
--- behind the number of entries m: n bits of data
-abbrev dataOf : ℕ → ℕ → Reader Type4FieldGeneric
-dataOf m n = kept n >>= λ d. got (record { len = n; elems = m; «data» = d })
-
+-- what stands behind the number of entries, as the code holds it
 abbrev held : ℕ → ℕ → Reader Generic
-held m n = dataOf m n >>= λ g. got (fromType4 (record { present = true; value = g }))
+held m n = keptEntries m n >>= λ g. got (fromType4 (record { present = true; value = g }))
 
 counted : {os : List ℕ} {c : Cursor} {x : Placed Generic} → Gives (sized (entries held)) os c x → Gives (sized genericType4At) os c x
 unfolding type4
-counted g = alike _ (entries-made dataOf _ _) g
+counted g = alike _ (entries-made keptEntries _ _) g
 
 -- what the calls read
 size : (c : tie.After-f) → let a = c .before .before .before .before .args in

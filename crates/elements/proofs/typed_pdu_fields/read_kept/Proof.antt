@@ -11,7 +11,7 @@ use Rattle.bits.specs.Bits.{Bits}
 use Rattle.bits.specs.Reader.{got, _>>=_, word, pass}
 use Rattle.bits.specs.ReaderLaws.{local·rules}
 use Rattle.bits.specs.Placed.{Placed, placed, asField, asMoved}
-use Rattle.bits.specs.PlacedLaws.{Gives, so, by, by-refusal, step, stop, done}
+use Rattle.bits.specs.PlacedLaws.{Gives, so, by, by-refusal, step, stop, done, Fact, fact}
 use Rattle.bits.specs.PlacedTimes.{alike}
 use Rattle.bits.specs.declared.bitbuffer.Cursor.{Cursor}
 use Rattle.elements.specs.Generics.{dataWidth, kept}
@@ -30,6 +30,9 @@ kept-is n w e bs =
 behind-data : (n w : ℕ) → w ≡ min n dataWidth → {os : List ℕ} {c : Cursor} {d : ℕ} {k : Cursor} → Gives (word dataWidth w) os c (placed d k)
     → {x : Placed ℕ} → Gives (pass (n - w) >>= λ z. got d) os k x → Gives (kept n) os c x
 behind-data n w e g h = alike _ (kept-is n w e _) (step _ g (search local·rules) h)
+
+abbrev first-bits : tie.After-f → Fact
+first-bits f = fact (by (f .before .before .read .ensures) (ap asField (f .f .given .1)))
 
 at-most-64-requires : tie.Need-at-most-64-requires
 at-most-64-requires c κs = search needs
@@ -65,12 +68,12 @@ refusal-requires c κs = search needs
 
 returns-2 : tie.Need-returns-2
 returns-2 c =
-    so (behind-data _ _ (c .before .before .before .before .before .before .before .before .at-most-64 .ensures) (by (c .before .before .before .before .before .before .before .read .ensures) (ap asField (c .before .before .before .before .before .f .given .1)))
+    so (behind-data _ _ (c .before .before .before .before .before .before .before .before .at-most-64 .ensures) (first-bits (c .before .before .before .before .before) .holds)
     (stop _ (by-refusal (c .before .before .before .pass .ensures) (ap asMoved (c .before .enum-told2 .given .1)) (c .refusal .ensures))))
 
 returns-3 : tie.Need-returns-3
 returns-3 c =
-    so (behind-data _ _ (c .before .before .before .before .before .before .before .before .at-most-64 .ensures) (by (c .before .before .before .before .before .before .before .read .ensures) (ap asField (c .before .before .before .before .before .f .given .1)))
+    so (behind-data _ _ (c .before .before .before .before .before .before .before .before .at-most-64 .ensures) (first-bits (c .before .before .before .before .before) .holds)
     (step _ (by (c .before .before .before .pass .ensures) (ap asMoved (c .before .p .given .1))) (search local·rules) done))
 
 pub read-kept-spec : {M : Type 1} → statement M

@@ -4,13 +4,17 @@ use mathlib.Core.Bool.{true}
 use borrow.Author.Needs.{needs}
 use Rattle.bits.specs.ReaderLaws.{local·rules}
 use Rattle.bits.specs.Placed.{asMoved}
-use Rattle.bits.specs.PlacedLaws.{so, by, by-refusal, step, stop, done}
+use Rattle.bits.specs.PlacedLaws.{so, by, by-refusal, step, stop, done, Fact, fact}
 use Rattle.elements.specs.PlacedTable.{skipping-tail}
 use Rattle.elements.specs.TableLaws.{closing-local}
 use Rattle.elements.specs.Rows.{rowsOf}
 use Rattle.elements.specs.Answers.{asSkipped}
 use Rattle.elements.proofs.typed_pdu_fields.read_table_end.Statement.{statement}
 use Rattle.elements.proofs.typed_pdu_fields.read_table_end.Tie as tie
+
+-- the unlisted elements are skipped
+abbrev skipped : tie.After-s → Fact
+skipped s = fact (by (s .before .before .skip-unlisted .ensures) (ap asSkipped (s .s .given .1)))
 
 skip-unlisted-requires : tie.Need-skip-unlisted-requires
 skip-unlisted-requires c κs = search needs
@@ -40,13 +44,13 @@ refusal-requires c κs = search needs
 returns-2 : tie.Need-returns-2
 returns-2 c =
     rw (c .before .before .before .before .before .before .before .before .if1 .taken)
-    (so (step _ (by (c .before .before .before .before .before .before .before .skip-unlisted .ensures) (ap asSkipped (c .before .before .before .before .before .s .given .1))) (skipping-tail (rowsOf (c .before .before .before .before .before .before .before .before .before .before .args .table)) true)
+    (so (step _ (skipped (c .before .before .before .before .before) .holds) (skipping-tail (rowsOf (c .before .before .before .before .before .before .before .before .before .before .args .table)) true)
     (stop _ (by-refusal (c .before .before .before .read-closing-mbit .ensures) (ap asMoved (c .before .enum-told2 .given .1)) (c .refusal .ensures)))))
 
 returns-3 : tie.Need-returns-3
 returns-3 c =
     rw (c .before .before .before .before .before .before .before .before .if1 .taken)
-    (so (step _ (by (c .before .before .before .before .before .before .before .skip-unlisted .ensures) (ap asSkipped (c .before .before .before .before .before .s .given .1))) (skipping-tail (rowsOf (c .before .before .before .before .before .before .before .before .before .before .args .table)) true)
+    (so (step _ (skipped (c .before .before .before .before .before) .holds) (skipping-tail (rowsOf (c .before .before .before .before .before .before .before .before .before .before .args .table)) true)
     (step _ (by (c .before .before .before .read-closing-mbit .ensures) (ap asMoved (c .before .m .given .1))) (search (local·rules, closing-local)) done)))
 
 read-closing-mbit-requires-2 : tie.Need-read-closing-mbit-requires-2

@@ -8,13 +8,12 @@ use mathlib.Core.List.{_∷_}
 use borrow.Author.Needs.{needs}
 use lib.ListN.{length, length-map, getD}
 use Rattle.bits.specs.Placed.{at, placed}
-use Rattle.bits.specs.PlacedLaws.{Gives, by, by-refusal, told}
+use Rattle.bits.specs.PlacedLaws.{Gives, by, by-refusal, told, Fact, fact}
 use Rattle.bits.specs.PlacedTimes.{alike}
 use Rattle.elements.specs.Verdicts.{answer, verdict-to, verdict-refused, generic-beside}
 use Rattle.elements.specs.PlacedTable.{skip-most, generic-slot-tail, filled, resumed, resumed-start, resumed-end, resumed-unskipped, resumed-broken, resumed-on}
 use Rattle.elements.specs.Table.{isListed}
-use Rattle.elements.specs.Kinds.{identifierOf, content}
-use Rattle.elements.specs.KindsLaws.{content-local}
+use Rattle.elements.specs.Kinds.{identifierOf}
 use Rattle.elements.specs.Rows.{rowsOf, slotsFrom}
 use Rattle.elements.specs.Parts.{behind-most, no-slots, no-behind, part-read}
 use Rattle.elements.specs.Answers.{asSkipped, slotsAnswer}
@@ -42,6 +41,10 @@ next-slot c =
     let rows : length (t .rows) ≡ 8 = sym (length-map (t .rows) _) ∙ s .good .1 .1 .0 .1 .1 .1 .0 .1 .0 .1 in
     slots-cons t (s .args .to) (c .before .loop .i) rows (omega arith)
 
+-- the unlisted elements before it are skipped
+abbrev skipped : tie.After-s Inv-loop μ-loop → Fact
+skipped s = fact (by (s .before .before .skip-if .ensures) (ap asSkipped (s .s .given .1)))
+
 -- behind the loop: the slots are read
 all-slots : (c : tie.After-loop Inv-loop μ-loop)
     → let a = c .before .before .before .before .args in
@@ -52,6 +55,10 @@ all-slots c =
     let a = c .before .before .before .before .args in
     let l = c .before .loop in
     by (sym (l .inv .1)) (resumed-end (rowsOf (a .t3)) (a .wanted) (l .generics) (l .i) (l .n) (slots-none (a .t3) (a .to) (l .i) (omega arith)) .eq)
+
+-- and what stands behind them
+abbrev ended : tie.After-b Inv-loop μ-loop → Fact
+ended b = fact (by (b .before .before .read-behind .ensures) (ap asSkipped (b .b .given .1)))
 
 at-most-8-requires : tie.Need-at-most-8-requires Inv-loop μ-loop
 at-most-8-requires c κs = search needs
@@ -99,7 +106,7 @@ returns-2 : tie.Need-returns-2 Inv-loop μ-loop
 returns-2 c =
     let l = c .before .before .before .before .before .before .before .before in
     rw (c .enum-told2 .given .1) (answer slotsAnswer (no-slots _ _ _ _ _ _ (by (sym (l .before .loop .inv .1)) (resumed-broken _ _ _ _ _ (next-slot l)
-    (by (c .before .before .before .before .before .before .before .skip-if .ensures) (ap asSkipped (c .before .before .before .before .before .s .given .1))) (verdict-refused generic-beside (c .before .before .read-generic-slot .ensures) (c .enum-told2 .given .1)) .eq))))
+    (skipped (c .before .before .before .before .before) .holds) (verdict-refused generic-beside (c .before .before .read-generic-slot .ensures) (c .enum-told2 .given .1)) .eq))))
 
 mul-generics : tie.Need-mul-generics Inv-loop μ-loop
 mul-generics c = search needs
@@ -110,7 +117,7 @@ array-set-from-generics c = search needs
 add-n : tie.Need-add-n Inv-loop μ-loop
 add-n c =
     let a = c .before .before .before .before .before .before .before .before .before .before .before .before .before .before .args in
-    let m = skip-most identifierOf content content-local (isListed identifierOf (rowsOf (a .t3))) (a .wanted) (by (c .before .before .before .before .before .before .before .before .before .skip-if .ensures) (ap asSkipped (c .before .before .before .before .before .before .before .s .given .1))) in
+    let m = skip-most (isListed identifierOf (rowsOf (a .t3))) (a .wanted) (skipped (c .before .before .before .before .before .before .before) .holds) in
     omega (arith, c .before .before .before .before .before .before .known-told .given)
 
 add-i : tie.Need-add-i Inv-loop μ-loop
@@ -124,9 +131,9 @@ loop-again c =
     let p = c .before .before .before .before .before .before .before .before .before .before in
     let a = p .before .before .before .before .args in
     let l = p .before .loop in
-    let s = by (c .before .before .before .before .before .before .before .before .before .skip-if .ensures) (ap asSkipped (c .before .before .before .before .before .before .before .s .given .1)) in
+    let s = skipped (c .before .before .before .before .before .before .before) .holds in
     let g = verdict-to generic-beside (c .before .before .before .before .read-generic-slot .ensures) (c .before .before .v .given .1) in
-    let m = skip-most identifierOf content content-local (isListed identifierOf (rowsOf (a .t3))) (a .wanted) s in
+    let m = skip-most (isListed identifierOf (rowsOf (a .t3))) (a .wanted) s in
     let o = told (generic-slot-tail _) g .on in
     (omega arith, l .inv .1 ∙ resumed-on (rowsOf (a .t3)) (a .wanted) (l .generics) (l .i) (l .n) (next-slot p) s g)
 
@@ -150,13 +157,12 @@ returns-3 c =
 add-t49 : tie.Need-add-t49 Inv-loop μ-loop
 add-t49 c =
     let a = c .before .before .before .before .before .before .before .before .args in
-    let back = behind-most (rowsOf (a .t3)) (a .wanted) (a .last) (by (c .before .before .before .read-behind .ensures) (ap asSkipped (c .before .b .given .1))) in
+    let back = behind-most (rowsOf (a .t3)) (a .wanted) (a .last) (ended (c .before) .holds) in
     omega (arith, c .before .before .before .before .before .loop .inv .0, c .known-told3 .given)
 
 returns-4 : tie.Need-returns-4 Inv-loop μ-loop
 returns-4 c =
-    answer slotsAnswer (part-read _ _ _ _ _ _ (all-slots (c .before .before .before .before))
-    (by (c .before .before .before .read-behind .ensures) (ap asSkipped (c .before .b .given .1))))
+    answer slotsAnswer (part-read _ _ _ _ _ _ (all-slots (c .before .before .before .before)) (ended (c .before) .holds))
 
 pub scan-part-spec : {M : Type 1} → statement M
 scan-part-spec =

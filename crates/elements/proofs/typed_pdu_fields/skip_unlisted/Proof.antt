@@ -10,7 +10,7 @@ use lib.ListN.{length}
 use Rattle.bits.specs.Reader.{word}
 use Rattle.bits.specs.ReaderLaws.{local·rules}
 use Rattle.bits.specs.Placed.{placed, window, at, asField, asMoved}
-use Rattle.bits.specs.PlacedLaws.{Gives, by, by-refusal, step, stop}
+use Rattle.bits.specs.PlacedLaws.{Gives, by, by-refusal, step, stop, Fact, fact}
 use Rattle.bits.specs.PlacedTimes.{alike}
 use Rattle.elements.specs.Table.{isListed}
 use Rattle.elements.specs.Kinds.{identifierOf}
@@ -32,11 +32,19 @@ abbrev μ-loop : tie.MeasureT-loop
 looked : (c : tie.After-l Inv-loop μ-loop) → let a = c .before .before .before .before .before .args in Gives opening (a .octets .now) (c .before .before .before .loop .place) (placed (c .l .given .0 .0) (c .l .given .0 .1 .0))
 looked c = by (c .before .before .peek-type34-mbit-and-id .ensures) (ap asOptionalU8 (c .l .given .1))
 
+-- it is not listed
+abbrev unlisted : tie.Else2 Inv-loop μ-loop → Fact
+unlisted c = fact (sym (c .before .is-listed .ensures) ∙ c .if2 .left)
+
+-- its length is read
+abbrev size : tie.After-f Inv-loop μ-loop → Fact
+size f = fact (by (f .before .before .read .ensures) (ap asField (f .f .given .1)))
+
 -- an element's content is passed
 passed : (c : tie.After-p Inv-loop μ-loop) → Gives body (c .before .before .before .before .before .before .before .before .before .before .before .before .before .before .before .before .before .args .octets .now) (c .before .before .before .before .before .before .before .before .before .before .before .before .l .given .0 .1 .0) (placed tt (c .p .given .0 .0))
 unfolding word
 passed c =
-    step _ (by (c .before .before .before .before .before .before .read .ensures) (ap asField (c .before .before .before .before .f .given .1))) (search local·rules) (by (c .before .before .pass .ensures) (ap asMoved (c .p .given .1)))
+    step _ (size (c .before .before .before .before) .holds) (search local·rules) (by (c .before .before .pass .ensures) (ap asMoved (c .p .given .1)))
 
 loop-holds : tie.Need-loop-holds Inv-loop μ-loop
 loop-holds c =
@@ -86,7 +94,7 @@ returns-4 : tie.Need-returns-4 Inv-loop μ-loop
 unfolding word
 returns-4 c =
     sym (c .before .before .before .before .before .before .before .before .before .before .before .before .loop .inv .1 ∙ tally-on _ _ (looked (c .before .before .before .before .before .before .before .before .before)) (not-false _ (c .before .before .before .before .before .before .if1 .left))
-    (sym (c .before .before .before .before .before .is-listed .ensures) ∙ c .before .before .before .before .if2 .left)
+    (unlisted (c .before .before .before .before) .holds)
     (stop _ (stop _ (by-refusal (c .before .before .before .read .ensures) (ap asField (c .before .enum-told2 .given .1)) (c .refusal2 .ensures)))) .eq)
 
 pass-requires : tie.Need-pass-requires Inv-loop μ-loop
@@ -105,8 +113,8 @@ returns-5 : tie.Need-returns-5 Inv-loop μ-loop
 unfolding word
 returns-5 c =
     sym (c .before .before .before .before .before .before .before .before .before .before .before .before .before .before .before .before .loop .inv .1 ∙ tally-on _ _ (looked (c .before .before .before .before .before .before .before .before .before .before .before .before .before)) (not-false _ (c .before .before .before .before .before .before .before .before .before .before .if1 .left))
-    (sym (c .before .before .before .before .before .before .before .before .before .is-listed .ensures) ∙ c .before .before .before .before .before .before .before .before .if2 .left)
-    (stop _ (step _ (by (c .before .before .before .before .before .before .before .read .ensures) (ap asField (c .before .before .before .before .before .f .given .1))) (search local·rules)
+    (unlisted (c .before .before .before .before .before .before .before .before) .holds)
+    (stop _ (step _ (size (c .before .before .before .before .before) .holds) (search local·rules)
     (by-refusal (c .before .before .before .pass .ensures) (ap asMoved (c .before .enum-told3 .given .1)) (c .refusal3 .ensures)))) .eq)
 
 add-n : tie.Need-add-n Inv-loop μ-loop
@@ -128,7 +136,7 @@ loop-again c =
     let e = looked (c .before .before .before .before .before .before .before .before .before .before .before .before .before) in
     let g = passed (c .before) in
     let m = body-on e g .0 in
-    (omega arith, c .before .before .before .before .before .before .before .before .before .before .before .before .before .before .before .before .loop .inv .1 ∙ tally-on _ _ e (not-false _ (c .before .before .before .before .before .before .before .before .before .before .if1 .left)) (sym (c .before .before .before .before .before .before .before .before .before .is-listed .ensures) ∙ c .before .before .before .before .before .before .before .before .if2 .left) (step _ g body-tail (by refl refl)) .eq)
+    (omega arith, c .before .before .before .before .before .before .before .before .before .before .before .before .before .before .before .before .loop .inv .1 ∙ tally-on _ _ e (not-false _ (c .before .before .before .before .before .before .before .before .before .before .if1 .left)) (unlisted (c .before .before .before .before .before .before .before .before) .holds) (step _ g body-tail (by refl refl)) .eq)
 
 pub skip-unlisted-spec : {M : Type 1} → statement M
 skip-unlisted-spec =

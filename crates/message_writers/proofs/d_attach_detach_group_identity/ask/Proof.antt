@@ -1,7 +1,7 @@
 -- `message_writers::d_attach_detach_group_identity::ask` meets its contract. Assumes nothing.
 use native.Mathlib.Omega.{arith}
 use Rattle.messages.specs.AttachDetach.{attachDetachAsked}
-use Rattle.message_writers.specs.WritesLaws.{and-true}
+use mathlib.Core.Bool.{and-true}
 use Rattle.message_writers.specs.AttachDetachParts.{attach-detach-generics, attach-detach-more, attach-detach-length}
 use borrow.Author.Needs.{needs}
 use Rattle.message_writers.proofs.d_attach_detach_group_identity.ask.Statement.{statement}

@@ -4,9 +4,9 @@ use mathlib.Core.Path.{sym, ap, _∙_}
 use Rattle.bits.specs.PutsLaws.{field, _⨾_}
 use Rattle.messages.specs.declared.d_attach_detach_group_identity.AttachDetachHead.{AttachDetachHead}
 use Rattle.messages.specs.AttachDetach.{attachDetachAsked}
-use Rattle.messages.specs.PlacedCalls.{Fact, fact}
+use Rattle.bits.specs.PlacedLaws.{Fact, fact}
 use Rattle.message_writers.specs.WritesLaws.{asking, all-passed, message-written, message-refused, bit-one, bit-other}
-use Rattle.message_writers.specs.AttachDetachParts.{attachDetachHeadIn, front-most, attach-detach-generics, attach-detach-joined, attach-detach-alone}
+use Rattle.message_writers.specs.AttachDetachParts.{attachDetachHeadIn, front-most, attach-detach-generics, attach-detach-in-parts}
 use borrow.Author.Needs.{needs}
 use Rattle.message_writers.proofs.d_attach_detach_group_identity.to_bitbuf.Statement.{statement}
 use Rattle.message_writers.proofs.d_attach_detach_group_identity.to_bitbuf.Tie as tie
@@ -51,7 +51,7 @@ returns c =
     let a = c .before .before .before .before .before .before .before .before .before .before .before .before .before .before .before .before .before .before .before .before .before .args in
     let q = asked (c .before .before .before .before .before .before .before .before .before .before .before .before .before .before .before) .holds in
     let h = ap (λ (x : AttachDetachHead). x .obit) (c .before .before .before .before .before .before .before .before .before .before .before .before .before .head-of .ensures) in
-    message-written q (λ i. c .before .before .before .before .before .before .before .before .before .before .before .before .before .before .before .before .before .before .before .before .slice-known .given i .fits) (c .before .before .before .before .before .before .before .before .before .before .before .before .before .before .if1 .taken) (attach-detach-joined (a .d) (c .before .before .before .before .before .before .before .before .before .before .before .before .before .before .before .before .before .before .ask-downlinks .ensures .0) (all-passed q (c .before .before .before .before .before .before .before .before .before .before .before .before .before .before .if1 .taken) .type3Only) (bit-one _ (sym h ∙ c .before .before .before .before .before .before .if2 .taken)))
+    message-written q (λ i. c .before .before .before .before .before .before .before .before .before .before .before .before .before .before .before .before .before .before .before .before .slice-known .given i .fits) (c .before .before .before .before .before .before .before .before .before .before .before .before .before .before .if1 .taken) (attach-detach-in-parts (a .d) (c .before .before .before .before .before .before .before .before .before .before .before .before .before .before .before .before .before .before .ask-downlinks .ensures .0) (all-passed q (c .before .before .before .before .before .before .before .before .before .before .before .before .before .before .if1 .taken) .type3Only) .all (bit-one _ (sym h ∙ c .before .before .before .before .before .before .if2 .taken)))
     (field (rw (c .before .before .before .before .before .before .before .before .before .before .before .before .before .head-of .ensures) at (c .before .before .before .before .before .before .before .before .before .before .before .front .ensures)) (front-most (attachDetachHeadIn (a .d))) (c .before .before .before .before .before .before .before .before .before .before .put .ensures) ⨾ c .before .before .put-elements .ensures)
 
 same-length-2 : tie.Need-same-length-2
@@ -63,7 +63,7 @@ returns-2 c =
     let a = c .before .before .before .before .before .before .before .before .before .before .before .before .before .before .before .args in
     let q = asked (c .before .before .before .before .before .before .before .before .before) .holds in
     let h = ap (λ (x : AttachDetachHead). x .obit) (c .before .before .before .before .before .before .before .head-of .ensures) in
-    message-written q (λ i. c .before .before .before .before .before .before .before .before .before .before .before .before .before .before .slice-known .given i .fits) (c .before .before .before .before .before .before .before .before .if1 .taken) (attach-detach-alone (a .d) (c .before .before .before .before .before .before .before .before .before .before .before .before .ask-downlinks .ensures .0) (all-passed q (c .before .before .before .before .before .before .before .before .if1 .taken) .type3Only) (bit-other _ (λ e. c .if2 .left (h ∙ e))))
+    message-written q (λ i. c .before .before .before .before .before .before .before .before .before .before .before .before .before .before .slice-known .given i .fits) (c .before .before .before .before .before .before .before .before .if1 .taken) (attach-detach-in-parts (a .d) (c .before .before .before .before .before .before .before .before .before .before .before .before .ask-downlinks .ensures .0) (all-passed q (c .before .before .before .before .before .before .before .before .if1 .taken) .type3Only) .alone (bit-other _ (λ e. c .if2 .left (h ∙ e))))
     (field (rw (c .before .before .before .before .before .before .before .head-of .ensures) at (c .before .before .before .before .before .front .ensures)) (front-most (attachDetachHeadIn (a .d))) (c .before .before .before .before .put .ensures))
 
 refuse-requires : tie.Need-refuse-requires

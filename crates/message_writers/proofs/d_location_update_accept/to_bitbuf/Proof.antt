@@ -3,9 +3,9 @@ use Rattle.bits.specs.Written.{written}
 use mathlib.Core.Path.{refl, sym, ap, _∙_}
 use Rattle.bits.specs.PutsLaws.{field, _⨾_}
 use Rattle.messages.specs.declared.d_location_update_accept.AcceptHead.{AcceptHead}
-use Rattle.messages.specs.PlacedCalls.{Fact, fact}
+use Rattle.bits.specs.PlacedLaws.{Fact, fact}
 use Rattle.message_writers.specs.WritesLaws.{asking, all-passed, message-written, message-refused, bit-one, bit-other}
-use Rattle.message_writers.specs.AcceptParts.{acceptHeadIn, front-most, accept-generics, accept-joined, accept-alone}
+use Rattle.message_writers.specs.AcceptParts.{acceptHeadIn, front-most, accept-generics, accept-in-parts}
 use borrow.Author.Needs.{needs}
 use Rattle.message_writers.proofs.d_location_update_accept.to_bitbuf.Statement.{statement}
 use Rattle.message_writers.proofs.d_location_update_accept.to_bitbuf.Tie as tie
@@ -55,7 +55,7 @@ returns c =
     let a = c .before .before .before .before .before .before .before .before .before .before .before .before .before .before .before .before .before .before .before .before .before .before .before .args in
     let q = asked (c .before .before .before .before .before .before .before .before .before .before .before .before .before .before) .holds in
     let h = ap (λ (x : AcceptHead). x .obit) (c .before .before .before .before .before .before .before .before .before .before .before .before .before .before .before .before .before .before .before .before .before .head-of .ensures) in
-    message-written q (λ i. c .before .before .before .before .before .before .before .before .before .before .before .before .before .before .before .before .before .before .before .before .before .before .slice-known .given i .fits) (c .before .before .before .before .before .before .before .before .before .before .before .before .before .if1 .taken) (accept-joined (a .d) (c .before .before .before .before .before .before .before .before .before .before .before .before .before .before .before .before .before .ask-location-accept .ensures .0) (all-passed q (c .before .before .before .before .before .before .before .before .before .before .before .before .before .if1 .taken) .type3Only) (bit-one _ (sym h ∙ c .before .before .before .before .before .before .if2 .taken)))
+    message-written q (λ i. c .before .before .before .before .before .before .before .before .before .before .before .before .before .before .before .before .before .before .before .before .before .before .slice-known .given i .fits) (c .before .before .before .before .before .before .before .before .before .before .before .before .before .if1 .taken) (accept-in-parts (a .d) (c .before .before .before .before .before .before .before .before .before .before .before .before .before .before .before .before .before .ask-location-accept .ensures .0) (all-passed q (c .before .before .before .before .before .before .before .before .before .before .before .before .before .if1 .taken) .type3Only) .all (bit-one _ (sym h ∙ c .before .before .before .before .before .before .if2 .taken)))
     (field (rw (c .before .before .before .before .before .before .before .before .before .before .before .before .before .before .before .before .before .before .before .before .before .head-of .ensures) at (c .before .before .before .before .before .before .before .before .before .before .before .front .ensures)) (front-most (acceptHeadIn (a .d))) (c .before .before .before .before .before .before .before .before .before .before .put .ensures) ⨾ (rw (c .before .before .before .before .before .before .before .before .before .before .before .before .before .before .before .before .before .before .before .before .before .head-of .ensures, c .before .before .before .before .before .before .before .before .before .before .before .before .before .before .before .before .before .before .before .before .rest-of .ensures, c .before .before .before .before .before .before .before .before .before .before .before .before .before .before .before .before .before .before .before .generics-of .ensures) at (c .before .before .put-behind .ensures)))
 
 same-length-2 : tie.Need-same-length-2
@@ -66,7 +66,7 @@ returns-2 c =
     let a = c .before .before .before .before .before .before .before .before .before .before .before .before .before .before .before .before .before .args in
     let q = asked (c .before .before .before .before .before .before .before .before) .holds in
     let h = ap (λ (x : AcceptHead). x .obit) (c .before .before .before .before .before .before .before .before .before .before .before .before .before .before .before .head-of .ensures) in
-    message-written q (λ i. c .before .before .before .before .before .before .before .before .before .before .before .before .before .before .before .before .slice-known .given i .fits) (c .before .before .before .before .before .before .before .if1 .taken) (accept-alone (a .d) (c .before .before .before .before .before .before .before .before .before .before .before .ask-location-accept .ensures .0) (all-passed q (c .before .before .before .before .before .before .before .if1 .taken) .type3Only) (bit-other _ (λ e. c .if2 .left (h ∙ e))))
+    message-written q (λ i. c .before .before .before .before .before .before .before .before .before .before .before .before .before .before .before .before .slice-known .given i .fits) (c .before .before .before .before .before .before .before .if1 .taken) (accept-in-parts (a .d) (c .before .before .before .before .before .before .before .before .before .before .before .ask-location-accept .ensures .0) (all-passed q (c .before .before .before .before .before .before .before .if1 .taken) .type3Only) .alone (bit-other _ (λ e. c .if2 .left (h ∙ e))))
     (field (rw (c .before .before .before .before .before .before .before .before .before .before .before .before .before .before .before .head-of .ensures) at (c .before .before .before .before .before .front .ensures)) (front-most (acceptHeadIn (a .d))) (c .before .before .before .before .put .ensures))
 
 refuse-requires : tie.Need-refuse-requires

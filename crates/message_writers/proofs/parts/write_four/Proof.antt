@@ -2,7 +2,7 @@
 use Rattle.bits.specs.DigitsLaws.{no-digits, _▹_}
 use Rattle.bits.specs.PutsLaws.{field, _⨾_}
 use Rattle.element_writers.specs.WrittenElements.{type3-written, closing-fits}
-use Rattle.message_writers.specs.Parts.{four-fit}
+use Rattle.message_writers.specs.Parts.{four-fit, four-absent}
 use borrow.Author.Needs.{needs}
 use Rattle.message_writers.proofs.parts.write_four.Statement.{statement}
 use Rattle.message_writers.proofs.parts.write_four.Tie as tie
@@ -42,12 +42,25 @@ same-length c = search needs
 
 returns : tie.Need-returns
 returns c =
-    let g = c .before .before .before .before .before .before .before .before .before .before .before .before .before .before .before .before .before .before .before .before .before .before .before .before .before .before .args .g in
-    let f = four-fit g (c .before .before .before .before .before .before .before .before .before .before .before .before .before .before .before .before .before .before .before .before .before .before .before .before .before .before .pre) in
+    let g = c .before .before .before .before .before .before .before .before .before .before .before .before .before .before .before .before .before .before .before .before .before .before .before .before .before .before .before .before .before .before .before .args .g in
+    let f = four-fit g (c .before .before .before .before .before .before .before .before .before .before .before .before .before .before .before .before .before .before .before .before .before .before .before .before .before .before .before .before .before .before .before .pre) in
     type3-written _ (g .first) (f .first) (c .before .before .before .before .before .before .before .before .before .before .before .before .before .before .before .before .before .before .before .write-type3-generic .ensures)
     ⨾ (type3-written _ (g .second) (f .second) (c .before .before .before .before .before .before .before .before .before .before .before .before .before .before .before .write-type3-generic2 .ensures)
     ⨾ (type3-written _ (g .third) (f .third) (c .before .before .before .before .before .before .before .before .before .before .before .write-type3-generic3 .ensures)
     ⨾ (type3-written _ (g .fourth) (f .fourth) (c .before .before .before .before .before .before .before .write-type3-generic4 .ensures) ⨾ field (no-digits ▹ c .before .before .before .then .ensures) closing-fits (c .before .before .put .ensures))))
+
+then-requires-2 : tie.Need-then-requires-2
+then-requires-2 c κs = search needs
+
+put-requires-2 : tie.Need-put-requires-2
+put-requires-2 c κs = search needs
+
+same-length-2 : tie.Need-same-length-2
+same-length-2 c = search needs
+
+returns-2 : tie.Need-returns-2
+returns-2 c =
+    four-absent (c .before .before .before .before .before .before .before .before .before .before .before .before .before .before .before .args .t3) (c .before .before .before .before .before .before .before .before .before .before .before .before .before .before .before .args .g) (λ i. c .before .before .before .before .before .before .before .before .before .before .before .before .before .before .slice-known .given i .fits) (c .before .before .before .before .before .if1 .left) (field (no-digits ▹ c .before .before .before .then2 .ensures) closing-fits (c .before .before .put2 .ensures))
 
 pub write-four-spec : {M : Type 1} → statement M
 write-four-spec =
@@ -64,4 +77,8 @@ write-four-spec =
     then-requires
     put-requires
     same-length
-    returns)
+    returns
+    then-requires-2
+    put-requires-2
+    same-length-2
+    returns-2)

@@ -1,5 +1,5 @@
 -- `message_writers::u_location_update_demand::head_fits` meets its contract. Assumes nothing.
-use Rattle.message_writers.specs.WritesLaws.{and-true}
+use mathlib.Core.Bool.{and-true}
 use borrow.Author.Needs.{needs}
 use Rattle.message_writers.proofs.u_location_update_demand.head_fits.Statement.{statement}
 use Rattle.message_writers.proofs.u_location_update_demand.head_fits.Tie as tie

@@ -1,5 +1,5 @@
 -- `message_writers::u_location_update_demand::options_fit` meets its contract. Assumes nothing.
-use Rattle.message_writers.specs.WritesLaws.{and-true}
+use mathlib.Core.Bool.{and-true}
 use borrow.Author.Needs.{needs}
 use Rattle.message_writers.proofs.u_location_update_demand.options_fit.Statement.{statement}
 use Rattle.message_writers.proofs.u_location_update_demand.options_fit.Tie as tie

@@ -1,94 +1,42 @@
 -- `message_writers::u_location_update_demand::to_bitbuf` meets its contract. Assumes nothing.
-use Rattle.bits.specs.Written.{written}
-use mathlib.Core.Path.{refl, sym, ap, _∙_}
-use Rattle.bits.specs.PutsLaws.{field, _⨾_}
+use mathlib.Core.Path.{sym, ap, _∙_}
 use Rattle.messages.specs.declared.u_location_update_demand.DemandHead.{DemandHead}
-use Rattle.messages.specs.PlacedCalls.{Fact, fact}
-use Rattle.message_writers.specs.WritesLaws.{asking, all-passed, message-written, message-refused, bit-one, bit-other}
-use Rattle.message_writers.specs.DemandParts.{demandHeadIn, front-most, demand-generics, demand-joined, demand-alone}
+use Rattle.message_writers.specs.WritesLaws.{bit-one, bit-other}
 use borrow.Author.Needs.{needs}
 use Rattle.message_writers.proofs.u_location_update_demand.to_bitbuf.Statement.{statement}
 use Rattle.message_writers.proofs.u_location_update_demand.to_bitbuf.Tie as tie
 
--- the number that the questions give
-abbrev asked : tie.After-first-no → Fact
-asked v =
-    let a = v .before .before .before .before .before .before .before .before .args in
-    fact (asking (v .before .before .ask .ensures (a .d) (record { head = v .before .before .before .before .before .before .head-of .ensures; there = refl; asked = v .before .before .before .ask-location-demand .ensures .0; generics = v .before .before .before .before .before .generics-of .ensures })) (a .octets .now) (a .c) (v .before .has .ensures) (v .first-no .ensures))
-
 head-of-requires : tie.Need-head-of-requires
 head-of-requires c κs = search needs
 
-generics-of-requires : tie.Need-generics-of-requires
-generics-of-requires c κs = search needs
-
-ask-location-demand-requires : tie.Need-ask-location-demand-requires
-ask-location-demand-requires c κs = search needs
-
-ask-requires : tie.Need-ask-requires
-ask-requires c κs = search needs
-
-has-requires : tie.Need-has-requires
-has-requires c κs = search needs
-
-first-no-requires : tie.Need-first-no-requires
-first-no-requires c κs = search needs
-
-front-requires : tie.Need-front-requires
-front-requires c κs = search needs
-
-put-requires : tie.Need-put-requires
-put-requires c κs = search needs
-
-put-behind-requires : tie.Need-put-behind-requires
-put-behind-requires c κs =
-    rw (c .before .before .before .before .before .before .before .before .before .before .before .before .before .before .before .generics-of .ensures) (demand-generics (c .before .before .before .before .before .before .before .before .before .before .before .before .before .before .before .before .before .before .args .d) (all-passed (asked (c .before .before .before .before .before .before .before .before .before .before) .holds) (c .before .before .before .before .before .before .before .before .before .if1 .taken) .fits))
+write-more-requires : tie.Need-write-more-requires
+write-more-requires c κs =
+    (c .before .before .before .head-of .ensures, bit-one _ (sym (ap (λ (x : DemandHead). x .obit) (c .before .before .before .head-of .ensures)) ∙ c .before .if1 .taken))
 
 same-length : tie.Need-same-length
 same-length c = search needs
 
 returns : tie.Need-returns
-returns c =
-    let a = c .before .before .before .before .before .before .before .before .before .before .before .before .before .before .before .before .before .before .before .before .before .args in
-    let q = asked (c .before .before .before .before .before .before .before .before .before .before .before .before .before) .holds in
-    let h = ap (λ (x : DemandHead). x .obit) (c .before .before .before .before .before .before .before .before .before .before .before .before .before .before .before .before .before .before .before .head-of .ensures) in
-    message-written q (λ i. c .before .before .before .before .before .before .before .before .before .before .before .before .before .before .before .before .before .before .before .before .slice-known .given i .fits) (c .before .before .before .before .before .before .before .before .before .before .before .before .if1 .taken) (demand-joined (a .d) (c .before .before .before .before .before .before .before .before .before .before .before .before .before .before .before .before .ask-location-demand .ensures .0) (bit-one _ (sym h ∙ c .before .before .before .before .before .if2 .taken)))
-    (field (rw (c .before .before .before .before .before .before .before .before .before .before .before .before .before .before .before .before .before .before .before .head-of .ensures) at (c .before .before .before .before .before .before .before .before .before .before .front .ensures)) (front-most (demandHeadIn (a .d))) (c .before .before .before .before .before .before .before .before .before .put .ensures) ⨾ (rw (c .before .before .before .before .before .before .before .before .before .before .before .before .before .before .before .before .before .before .before .head-of .ensures, c .before .before .before .before .before .before .before .before .before .before .before .before .before .before .before .before .before .before .generics-of .ensures) at (c .before .before .put-behind .ensures)))
+returns c = search needs
+
+write-alone-requires : tie.Need-write-alone-requires
+write-alone-requires c κs = search needs
 
 same-length-2 : tie.Need-same-length-2
 same-length-2 c = search needs
 
 returns-2 : tie.Need-returns-2
 returns-2 c =
-    let a = c .before .before .before .before .before .before .before .before .before .before .before .before .before .before .before .before .args in
-    let q = asked (c .before .before .before .before .before .before .before .before) .holds in
-    let h = ap (λ (x : DemandHead). x .obit) (c .before .before .before .before .before .before .before .before .before .before .before .before .before .before .head-of .ensures) in
-    message-written q (λ i. c .before .before .before .before .before .before .before .before .before .before .before .before .before .before .before .slice-known .given i .fits) (c .before .before .before .before .before .before .before .if1 .taken) (demand-alone (a .d) (c .before .before .before .before .before .before .before .before .before .before .before .ask-location-demand .ensures .0) (bit-other _ (λ e. c .if2 .left (h ∙ e))))
-    (field (rw (c .before .before .before .before .before .before .before .before .before .before .before .before .before .before .head-of .ensures) at (c .before .before .before .before .before .front .ensures)) (front-most (demandHeadIn (a .d))) (c .before .before .before .before .put .ensures))
-
-refuse-requires : tie.Need-refuse-requires
-refuse-requires c κs = search needs
-
-returns-3 : tie.Need-returns-3
-returns-3 c =
-    ap (written (c .before .before .before .before .before .before .before .before .before .before .args .octets .now)) (c .refuse .ensures) ∙ message-refused (asked (c .before .before) .holds) (c .before .if1 .left)
+    c .before .before .write-alone .ensures (c .before .before .before .before .before .before .before .before .args .d) (c .before .before .before .before .before .before .head-of .ensures) (bit-other _ (λ e. c .before .before .before .before .if1 .left (ap (λ (x : DemandHead). x .obit) (c .before .before .before .before .before .before .head-of .ensures) ∙ e)))
 
 pub to-bitbuf-spec : {M : Type 1} → statement M
 to-bitbuf-spec =
     tie.close
     (tie.spec
     head-of-requires
-    generics-of-requires
-    ask-location-demand-requires
-    ask-requires
-    has-requires
-    first-no-requires
-    front-requires
-    put-requires
-    put-behind-requires
+    write-more-requires
     same-length
     returns
+    write-alone-requires
     same-length-2
-    returns-2
-    refuse-requires
-    returns-3)
+    returns-2)

@@ -7,12 +7,12 @@ use mathlib.Core.Option.{Option}
 use mathlib.Core.List.{List, [], _∷_, _++_}
 use lib.Seq.{sets}
 use Rattle.bits.specs.Placed.{placed}
-use Rattle.bits.specs.PlacedLaws.{Gives}
+use Rattle.bits.specs.PlacedLaws.{Gives, Fact, fact}
 use Rattle.elements.specs.Kinds.{Element, row, ofLocationAccept, heldElement}
 use Rattle.elements.specs.Rows.{part, noGenerics}
 use Rattle.elements.specs.GroupAnswers.{locationAcceptSlot}
 use Rattle.elements.specs.Verdicts.{answer, numbered, verdict-to, verdict-refused, slots-beside, location-accept-slot-beside}
-use Rattle.elements.specs.Parts.{Each, no-more, one-more, Parts, no-front, no-slot, no-back, all-read, all-most}
+use Rattle.elements.specs.Parts.{Each, no-more, one-more, Parts, no-front, no-slot, no-back, all-read}
 use Rattle.elements.specs.declared.typed_pdu_fields.Generic.{Generic}
 use Rattle.elements.specs.declared.typed_pdu_fields.Row.{Row}
 use Rattle.elements.specs.declared.group_identity_location_accept.OptionalLocationAccept.{OptionalLocationAccept}
@@ -61,6 +61,13 @@ slot-read c = verdict-to location-accept-slot-beside (c .before .before .read-lo
 back-read : (c : tie.After-x) → let a = c .before .before .before .before .before .before .before .before .before .before .before .before .before .before .args in
     Gives (part acceptTable back true (a .skipping) (c .before .before .before .before .before .before .before .before .before .before .before .before .scan-part .result .slots .generics) 3) (a .octets .now) (c .before .before .before .before .before .before .w .given .0 .0) (placed (c .before .before .scan-part2 .result .slots) (c .x .given .0 .0))
 back-read c = verdict-to slots-beside (c .before .before .scan-part2 .ensures) (c .x .given .1)
+
+-- the table, of its parts
+abbrev whole : tie.After-x → Fact
+unfolding locationAcceptSlot
+whole c =
+    let a = c .before .before .before .before .before .before .before .before .before .before .before .before .before .before .args in
+    fact (all-read _ (a .skipping) (parts (a .head)) (front-read (c .before .before .before .before .before .before .before .before .before .before)) (slot-read (c .before .before .before .before .before .before)) (back-read c))
 
 scan-part-requires : tie.Need-scan-part-requires
 scan-part-requires c κs = search needs
@@ -129,9 +136,7 @@ returns-3 c =
 add-t34 : tie.Need-add-t34
 unfolding locationAcceptSlot
 add-t34 c =
-    let a = c .before .before .before .before .before .before .before .before .before .before .before .before .before .before .before .before .before .before .before .before .args in
-    let most = all-most _ (a .skipping) (parts (a .head)) (front-read (c .before .before .before .before .before .before .before .before .before .before .before .before .before .before .before .before))
-    (slot-read (c .before .before .before .before .before .before .before .before .before .before .before .before)) (back-read (c .before .before .before .before .before .before)) in
+    let most = whole (c .before .before .before .before .before .before) .holds .most in
     omega (arith, c .before .before .before .before .before .known-told3 .given)
 
 record-of-requires : tie.Need-record-of-requires
@@ -139,10 +144,7 @@ record-of-requires c κs = search needs
 
 returns-4 : tie.Need-returns-4
 unfolding locationAcceptSlot
-returns-4 c =
-    let a = c .before .before .before .before .before .before .before .before .before .before .before .before .before .before .before .before .before .before .before .before .before .args in
-    rw (c .record-of .ensures) (answer acceptAnswer (all-read _ (a .skipping) (parts (a .head)) (front-read (c .before .before .before .before .before .before .before .before .before .before .before .before .before .before .before .before .before))
-    (slot-read (c .before .before .before .before .before .before .before .before .before .before .before .before .before)) (back-read (c .before .before .before .before .before .before .before))))
+returns-4 c = rw (c .record-of .ensures) (answer acceptAnswer (whole (c .before .before .before .before .before .before .before) .holds .is))
 
 pub read-elements-spec : {M : Type 1} → statement M
 read-elements-spec =

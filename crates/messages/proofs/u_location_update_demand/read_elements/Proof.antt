@@ -7,13 +7,13 @@ use mathlib.Core.Option.{Option}
 use mathlib.Core.List.{List, [], _∷_, _++_}
 use lib.Seq.{sets}
 use Rattle.bits.specs.Placed.{placed}
-use Rattle.bits.specs.PlacedLaws.{Gives, by, by-refusal}
+use Rattle.bits.specs.PlacedLaws.{Gives, by, by-refusal, Fact, fact}
 use Rattle.elements.specs.Answers.{asSkipped}
 use Rattle.elements.specs.Kinds.{Element, row, ofLocationDemand, heldElement}
 use Rattle.elements.specs.Rows.{part, noGenerics}
 use Rattle.elements.specs.GroupAnswers.{locationDemandSlot}
 use Rattle.elements.specs.Verdicts.{answer, numbered, verdict-to, verdict-refused, slots-beside, location-demand-slot-beside}
-use Rattle.elements.specs.Parts.{Each, no-more, one-more, Parts, empty-part, empty-part-refused, no-front, no-slot, no-back, all-read, all-most}
+use Rattle.elements.specs.Parts.{Each, no-more, one-more, Parts, empty-part, empty-part-refused, no-front, no-slot, no-back, all-read}
 use Rattle.elements.specs.declared.typed_pdu_fields.Generic.{Generic}
 use Rattle.elements.specs.declared.typed_pdu_fields.Row.{Row}
 use Rattle.elements.specs.declared.group_identity_location_demand.OptionalLocationDemand.{OptionalLocationDemand}
@@ -105,6 +105,13 @@ returns-2 c =
     c .refused2 .ensures ∙ answer demandAnswer (no-slot _ (a .skipping) (parts (a .head)) (front-read (c .before .before .before .before .before .before))
     (verdict-refused location-demand-slot-beside (c .before .before .before .before .read-location-demand-slot .ensures) (numbered (c .before .before .enum-told2 .given .1) (c .before .refusal2 .ensures))))
 
+-- the table, of its parts
+abbrev whole : tie.After-x → Fact
+unfolding locationDemandSlot
+whole c =
+    let a = c .before .before .before .before .before .before .before .before .before .before .before .before .args in
+    fact (all-read _ (a .skipping) (parts (a .head)) (front-read (c .before .before .before .before .before .before .before .before)) (slot-read (c .before .before .before .before)) (back-read c))
+
 scan-part-requires : tie.Need-scan-part-requires
 scan-part-requires c κs = search needs
 
@@ -130,9 +137,7 @@ returns-3 c =
 add-t32 : tie.Need-add-t32
 unfolding locationDemandSlot
 add-t32 c =
-    let a = c .before .before .before .before .before .before .before .before .before .before .before .before .before .before .before .before .before .args in
-    let most = all-most _ (a .skipping) (parts (a .head)) (front-read (c .before .before .before .before .before .before .before .before .before .before .before .before .before))
-    (slot-read (c .before .before .before .before .before .before .before .before .before)) (back-read (c .before .before .before .before .before)) in
+    let most = whole (c .before .before .before .before .before) .holds .most in
     omega (arith, c .before .before .before .before .known-told3 .given)
 
 record-of-requires : tie.Need-record-of-requires
@@ -140,10 +145,7 @@ record-of-requires c κs = search needs
 
 returns-4 : tie.Need-returns-4
 unfolding locationDemandSlot
-returns-4 c =
-    let a = c .before .before .before .before .before .before .before .before .before .before .before .before .before .before .before .before .before .before .args in
-    rw (c .record-of .ensures) (answer demandAnswer (all-read _ (a .skipping) (parts (a .head)) (front-read (c .before .before .before .before .before .before .before .before .before .before .before .before .before .before))
-    (slot-read (c .before .before .before .before .before .before .before .before .before .before)) (back-read (c .before .before .before .before .before .before))))
+returns-4 c = rw (c .record-of .ensures) (answer demandAnswer (whole (c .before .before .before .before .before .before) .holds .is))
 
 pub read-elements-spec : {M : Type 1} → statement M
 read-elements-spec =

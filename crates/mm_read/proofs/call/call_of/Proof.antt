@@ -2,6 +2,7 @@
 use mathlib.Core.Path.{ap, _∙_}
 use native.Mathlib.Omega.{arith}
 use lib.ListN.{length}
+use Rattle.bits.specs.PlacedLaws.{Fact, fact}
 use Rattle.mm_read.specs.Words.{firstWord, afterWord}
 use Rattle.mm_read.specs.WordsLaws.{after-word-within}
 use Rattle.mm_read.specs.Asking.{shapeOf, messageOf, readingOf, windowOf, callOf}
@@ -9,6 +10,20 @@ use Rattle.mm_read.specs.AskingLaws.{go-on, give-up}
 use borrow.Author.Needs.{needs}
 use Rattle.mm_read.proofs.call.call_of.Statement.{statement}
 use Rattle.mm_read.proofs.call.call_of.Tie as tie
+
+-- from the third word on
+abbrev third : tie.After-after-word2 → Fact
+third c = fact (c .after-word2 .ensures ∙ ap afterWord (c .before .after-word .ensures))
+
+-- what the words name
+abbrev shape : tie.After-shape-of → Fact
+shape c = fact (c .shape-of .ensures ∙ ap shapeOf (third (c .before) .holds))
+
+abbrev message : tie.After-message-of → Fact
+message c = fact (c .message-of .ensures ∙ ap messageOf (c .before .first-word .ensures))
+
+abbrev reading : tie.After-reading-of → Fact
+reading c = fact (c .reading-of .ensures ∙ ap readingOf (c .before .first-word2 .ensures ∙ ap firstWord (c .before .before .before .before .before .before .before .before .before .before .before .after-word .ensures)))
 
 after-word-requires : tie.Need-after-word-requires
 after-word-requires c κs = search needs
@@ -31,7 +46,7 @@ fault-requires c κs = search needs
 returns : tie.Need-returns
 unfolding callOf
 returns c =
-    give-up _ (c .before .before .before .shape-of .ensures ∙ ap shapeOf (c .before .before .before .before .after-word2 .ensures ∙ ap afterWord (c .before .before .before .before .before .after-word .ensures))) (c .before .enum-told2 .given .1) (c .fault .ensures)
+    give-up _ (shape (c .before .before .before) .holds) (c .before .enum-told2 .given .1) (c .fault .ensures)
 
 first-word-requires : tie.Need-first-word-requires
 first-word-requires c κs = search needs
@@ -51,8 +66,8 @@ fault-requires-2 c κs = search needs
 returns-2 : tie.Need-returns-2
 unfolding callOf
 returns-2 c =
-    go-on _ (c .before .before .before .before .before .before .before .shape-of .ensures ∙ ap shapeOf (c .before .before .before .before .before .before .before .before .after-word2 .ensures ∙ ap afterWord (c .before .before .before .before .before .before .before .before .before .after-word .ensures))) (c .before .before .before .before .before .enum-told .given .1)
-    (give-up _ (c .before .before .before .message-of .ensures ∙ ap messageOf (c .before .before .before .before .first-word .ensures)) (c .before .enum-told3 .given .1) (c .fault2 .ensures))
+    go-on _ (shape (c .before .before .before .before .before .before .before) .holds) (c .before .before .before .before .before .enum-told .given .1)
+    (give-up _ (message (c .before .before .before) .holds) (c .before .enum-told3 .given .1) (c .fault2 .ensures))
 
 first-word-requires-2 : tie.Need-first-word-requires-2
 first-word-requires-2 c κs = search needs
@@ -72,9 +87,9 @@ fault-requires-3 c κs = search needs
 returns-3 : tie.Need-returns-3
 unfolding callOf
 returns-3 c =
-    go-on _ (c .before .before .before .before .before .before .before .before .before .before .before .before .shape-of .ensures ∙ ap shapeOf (c .before .before .before .before .before .before .before .before .before .before .before .before .before .after-word2 .ensures ∙ ap afterWord (c .before .before .before .before .before .before .before .before .before .before .before .before .before .before .after-word .ensures))) (c .before .before .before .before .before .before .before .before .before .before .enum-told .given .1)
-    (go-on _ (c .before .before .before .before .before .before .before .before .message-of .ensures ∙ ap messageOf (c .before .before .before .before .before .before .before .before .before .first-word .ensures)) (c .before .before .before .before .before .before .m .given .1)
-    (give-up _ (c .before .before .before .reading-of .ensures ∙ ap readingOf (c .before .before .before .before .first-word2 .ensures ∙ ap firstWord (c .before .before .before .before .before .before .before .before .before .before .before .before .before .before .after-word .ensures))) (c .before .enum-told4 .given .1) (c .fault3 .ensures)))
+    go-on _ (shape (c .before .before .before .before .before .before .before .before .before .before .before .before) .holds) (c .before .before .before .before .before .before .before .before .before .before .enum-told .given .1)
+    (go-on _ (message (c .before .before .before .before .before .before .before .before) .holds) (c .before .before .before .before .before .before .m .given .1)
+    (give-up _ (reading (c .before .before .before) .holds) (c .before .enum-told4 .given .1) (c .fault3 .ensures)))
 
 window-of-requires : tie.Need-window-of-requires
 window-of-requires c κs =
@@ -90,10 +105,10 @@ window-of-requires c κs =
 returns-4 : tie.Need-returns-4
 unfolding callOf
 returns-4 c =
-    go-on _ (c .before .before .before .before .before .before .before .before .before .before .before .before .before .shape-of .ensures ∙ ap shapeOf (c .before .before .before .before .before .before .before .before .before .before .before .before .before .before .after-word2 .ensures ∙ ap afterWord (c .before .before .before .before .before .before .before .before .before .before .before .before .before .before .before .after-word .ensures))) (c .before .before .before .before .before .before .before .before .before .before .before .enum-told .given .1)
-    (go-on _ (c .before .before .before .before .before .before .before .before .before .message-of .ensures ∙ ap messageOf (c .before .before .before .before .before .before .before .before .before .before .first-word .ensures)) (c .before .before .before .before .before .before .before .m .given .1)
-    (go-on _ (c .before .before .before .before .reading-of .ensures ∙ ap readingOf (c .before .before .before .before .before .first-word2 .ensures ∙ ap firstWord (c .before .before .before .before .before .before .before .before .before .before .before .before .before .before .before .after-word .ensures))) (c .before .before .w .given .1)
-    (c .window-of .ensures ∙ ap (windowOf _ _) (c .before .before .before .before .before .before .before .before .before .before .before .before .before .before .after-word2 .ensures ∙ ap afterWord (c .before .before .before .before .before .before .before .before .before .before .before .before .before .before .before .after-word .ensures)))))
+    go-on _ (shape (c .before .before .before .before .before .before .before .before .before .before .before .before .before) .holds) (c .before .before .before .before .before .before .before .before .before .before .before .enum-told .given .1)
+    (go-on _ (message (c .before .before .before .before .before .before .before .before .before) .holds) (c .before .before .before .before .before .before .before .m .given .1)
+    (go-on _ (reading (c .before .before .before .before) .holds) (c .before .before .w .given .1)
+    (c .window-of .ensures ∙ ap (windowOf _ _) (third (c .before .before .before .before .before .before .before .before .before .before .before .before .before .before) .holds))))
 
 pub call-of-spec : {M : Type 1} → statement M
 call-of-spec =

@@ -1,11 +1,35 @@
 -- `mm_read::call::shape_of` meets its contract. Assumes nothing.
 use mathlib.Core.Path.{ap, _∙_}
+use Rattle.bits.specs.PlacedLaws.{Fact, fact}
 use Rattle.mm_read.specs.Words.{firstWord, afterWord}
 use Rattle.mm_read.specs.Asking.{shapeOf}
 use Rattle.mm_read.specs.AskingLaws.{none-left, some-left}
 use borrow.Author.Needs.{needs}
 use Rattle.mm_read.proofs.call.shape_of.Statement.{statement}
 use Rattle.mm_read.proofs.call.shape_of.Tie as tie
+
+-- the words, one after the other
+abbrev second : tie.After-first-word2 → Fact
+second c = fact (c .first-word2 .ensures ∙ ap firstWord (c .before .after-word .ensures))
+
+abbrev behind-second : tie.After-after-word2 → Fact
+behind-second c = fact (c .after-word2 .ensures ∙ ap afterWord (c .before .before .before .after-word .ensures))
+
+abbrev third : tie.After-first-word3 → Fact
+third c = fact (c .first-word3 .ensures ∙ ap firstWord (behind-second (c .before) .holds))
+
+abbrev fourth : tie.After-first-word4 → Fact
+fourth c = fact (c .first-word4 .ensures ∙ ap firstWord (c .before .after-word3 .ensures ∙ ap afterWord (behind-second (c .before .before .before .before) .holds)))
+
+-- those that are there
+abbrev first-left : tie.Else1 → Fact
+first-left c = fact (some-left _ _ (c .before .first-word .ensures) (c .if1 .left))
+
+abbrev second-left : tie.Else2 → Fact
+second-left c = fact (some-left _ _ (second (c .before) .holds) (c .if2 .left))
+
+abbrev third-left : tie.Else3 → Fact
+third-left c = fact (some-left _ _ (third (c .before) .holds) (c .if3 .left))
 
 first-word-requires : tie.Need-first-word-requires
 first-word-requires c κs = search needs
@@ -25,10 +49,7 @@ first-word-requires-2 c κs = search needs
 returns-2 : tie.Need-returns-2
 unfolding shapeOf
 returns-2 c =
-    rw (
-      some-left _ _ (c .before .before .before .before .first-word .ensures) (c .before .before .before .if1 .left),
-      none-left _ _ (c .before .first-word2 .ensures ∙ ap firstWord (c .before .before .after-word .ensures)) (c .if2 .taken),
-    )
+    rw (first-left (c .before .before .before) .holds, none-left _ _ (second (c .before) .holds) (c .if2 .taken))
 
 after-word-requires-2 : tie.Need-after-word-requires-2
 after-word-requires-2 c κs = search needs
@@ -39,11 +60,7 @@ first-word-requires-3 c κs = search needs
 returns-3 : tie.Need-returns-3
 unfolding shapeOf
 returns-3 c =
-    rw (
-      some-left _ _ (c .before .before .before .before .before .before .before .first-word .ensures) (c .before .before .before .before .before .before .if1 .left),
-      some-left _ _ (c .before .before .before .before .first-word2 .ensures ∙ ap firstWord (c .before .before .before .before .before .after-word .ensures)) (c .before .before .before .if2 .left),
-      none-left _ _ (c .before .first-word3 .ensures ∙ ap firstWord (c .before .before .after-word2 .ensures ∙ ap afterWord (c .before .before .before .before .before .after-word .ensures))) (c .if3 .taken),
-    )
+    rw (first-left (c .before .before .before .before .before .before) .holds, second-left (c .before .before .before) .holds, none-left _ _ (third (c .before) .holds) (c .if3 .taken))
 
 after-word-requires-3 : tie.Need-after-word-requires-3
 after-word-requires-3 c κs = search needs
@@ -54,22 +71,12 @@ first-word-requires-4 c κs = search needs
 returns-4 : tie.Need-returns-4
 unfolding shapeOf
 returns-4 c =
-    rw (
-      some-left _ _ (c .before .before .before .before .before .before .before .before .before .before .first-word .ensures) (c .before .before .before .before .before .before .before .before .before .if1 .left),
-      some-left _ _ (c .before .before .before .before .before .before .before .first-word2 .ensures ∙ ap firstWord (c .before .before .before .before .before .before .before .before .after-word .ensures)) (c .before .before .before .before .before .before .if2 .left),
-      some-left _ _ (c .before .before .before .before .first-word3 .ensures ∙ ap firstWord (c .before .before .before .before .before .after-word2 .ensures ∙ ap afterWord (c .before .before .before .before .before .before .before .before .after-word .ensures))) (c .before .before .before .if3 .left),
-      none-left _ _ (c .before .first-word4 .ensures ∙ ap firstWord (c .before .before .after-word3 .ensures ∙ ap afterWord (c .before .before .before .before .before .after-word2 .ensures ∙ ap afterWord (c .before .before .before .before .before .before .before .before .after-word .ensures)))) (c .if4 .taken),
-    )
+    rw (first-left (c .before .before .before .before .before .before .before .before .before) .holds, second-left (c .before .before .before .before .before .before) .holds, third-left (c .before .before .before) .holds, none-left _ _ (fourth (c .before) .holds) (c .if4 .taken))
 
 returns-5 : tie.Need-returns-5
 unfolding shapeOf
 returns-5 c =
-    rw (
-      some-left _ _ (c .before .before .before .before .before .before .before .before .before .before .first-word .ensures) (c .before .before .before .before .before .before .before .before .before .if1 .left),
-      some-left _ _ (c .before .before .before .before .before .before .before .first-word2 .ensures ∙ ap firstWord (c .before .before .before .before .before .before .before .before .after-word .ensures)) (c .before .before .before .before .before .before .if2 .left),
-      some-left _ _ (c .before .before .before .before .first-word3 .ensures ∙ ap firstWord (c .before .before .before .before .before .after-word2 .ensures ∙ ap afterWord (c .before .before .before .before .before .before .before .before .after-word .ensures))) (c .before .before .before .if3 .left),
-      some-left _ _ (c .before .first-word4 .ensures ∙ ap firstWord (c .before .before .after-word3 .ensures ∙ ap afterWord (c .before .before .before .before .before .after-word2 .ensures ∙ ap afterWord (c .before .before .before .before .before .before .before .before .after-word .ensures)))) (c .if4 .left),
-    )
+    rw (first-left (c .before .before .before .before .before .before .before .before .before) .holds, second-left (c .before .before .before .before .before .before) .holds, third-left (c .before .before .before) .holds, some-left _ _ (fourth (c .before) .holds) (c .if4 .left))
 
 pub shape-of-spec : {M : Type 1} → statement M
 shape-of-spec =
