@@ -7,6 +7,7 @@ use mathlib.Core.Option.{Option}
 use mathlib.Core.List.{List, [], _∷_}
 use lib.ListN.{length, take, getD, length-append}
 use lib.Dec.{leb, ltb}
+use borrow.Author.Tests.{ltb-false}
 use Rattle.bits.specs.Bits.{Bits, digits}
 use Rattle.bits.specs.BitsLaws.{length-digits}
 use Rattle.elements.specs.Numbers.{held, isPresent, optionBits, optionAll, inWidth, flagWidth}
@@ -47,6 +48,10 @@ module _ {G L : Type 0} (k : Groups G L) where
     listed = listListed k l;
     size = length (optionBits (listBits k) (listHeld k l));
   }
+
+-- those of a list that is absent, or has no entries
+abbrev pub noGroups : Bool → GroupsAsked
+noGroups present = record { fits = true; one = true; listed = true; size = cond present 6 0 }
 
 -- ## laws
 
@@ -121,6 +126,18 @@ module _ {G L : Type 0} (k : Groups G L) where
       rw (p, e, m, take-most (k .count l) 63 (k .groups l) h)
       (rw (length-append (digits entriesWidth (k .count l)) (each (k .bits) (take (k .count l) (k .groups l))), length-digits entriesWidth (k .count l)))
 
-  pub no-list-asked : (l : L) → k .present l ≡ false → _≡_ {A = GroupsAsked} (record { fits = true; one = true; listed = true; size = 0 }) (askedList k l)
+  pub no-list-asked : (l : L) → k .present l ≡ false → noGroups false ≡ askedList k l
   unfolding listFits listOne listListed
   no-list-asked l p = rw p
+
+  -- absent, or without entries
+  pub no-groups-asked : (l : L) → (k .present l && ltb 0 (k .count l)) ≡ false → noGroups (k .present l) ≡ askedList k l
+  unfolding listFits listOne listListed listBits all each
+  no-groups-asked l h = go (k .present l) refl h
+    where
+      empty : k .present l ≡ true → k .count l ≡ 0 → noGroups true ≡ askedList k l
+      empty p z = rw (p, z) (rw (length-append (digits entriesWidth 0) [], length-digits entriesWidth 0) refl)
+
+      go : (p : Bool) → k .present l ≡ p → (p && ltb 0 (k .count l)) ≡ false → noGroups p ≡ askedList k l
+      go true p e = empty p (omega (arith, ltb-false 0 (k .count l) e))
+      go false p e = no-list-asked l p

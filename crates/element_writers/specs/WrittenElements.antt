@@ -117,7 +117,11 @@ type3-joined i g =
 
 -- ## lists, and the structures that hold one
 
-pub list-front-fits : (i n v : ℕ) → length (headerBits i n ++ digits entriesWidth v) ≤ 64
+-- what stands before a list's groups: the header, n being the length of its content, and the count
+abbrev pub listFrontBits : ℕ → ℕ → ℕ → Bits
+listFrontBits i n v = headerBits i n ++ digits entriesWidth v
+
+pub list-front-fits : (i n v : ℕ) → length (listFrontBits i n v) ≤ 64
 list-front-fits i n v = let h = header-length i n in let d = length-digits entriesWidth v in rw (length-append (headerBits i n) (digits entriesWidth v)) (omega arith)
 
 pub flag-fits : (d : Digits) (v : ℕ) → d .width ≤ 63 → length (bitsIn d ++ digits flagWidth v) ≤ 64
@@ -148,7 +152,12 @@ closing-fits = rw (length-digits mbitWidth 0) (omega arith)
 module _ {G L : Type 0} (k : Groups G L) (parts : G → List Bits) (i : ℕ) where
   -- a list as an element whose content has n bits: header and count, then the groups
   abbrev pub listParts : ℕ → L → List Bits
-  listParts n l = (headerBits i n ++ digits entriesWidth (k .count l)) ∷ each parts (take (k .count l) (k .groups l))
+  listParts n l = listFrontBits i n (k .count l) ∷ each parts (take (k .count l) (k .groups l))
+
+  -- without entries: what stands before the groups
+  pub list-empty : (n : ℕ) (l : L) {w v : Written} → k .count l ≤ 0 → Puts (listFrontBits i n 0 ∷ []) w v → Puts (listParts n l) w v
+  unfolding each
+  list-empty n l h p = let z : k .count l ≡ 0 = omega arith in rw z p
 
   -- behind what stands before it: the O-bit; if it is present the list, and the closing M-bit
   unfoldable pub nestedParts : Bits → ℕ → L → List Bits

@@ -5,7 +5,7 @@ ghost use lib.Dec.{ltb};
 ghost use Rattle.elements.specs.Numbers.{held, optionAll};
 ghost use Rattle.elements.specs.Groups.{addressFits, typeOf, uplinkForms, downlinkForms};
 ghost use Rattle.element_writers.specs.LocationAsked.{locationOf};
-ghost use Rattle.element_writers.specs.GroupsAsked.{addressHeld, addressSize};
+ghost use Rattle.element_writers.specs.GroupsAsked.{addressHeld, addressSize, noGroups};
 use crate::typed_pdu_fields::nested_size;
 use crate::typed_pdu_fields::width_if;
 use elements::group_address::GroupAddress;
@@ -62,6 +62,18 @@ pub struct GroupsAsked {
     pub one: bool,
     pub listed: bool,
     pub size: usize,
+}
+
+// The same of a list that is absent, or has no entries.
+pub(crate) fn no_groups(present: bool) -> GroupsAsked
+    ensures { λ r. ⌜ (r ≡ noGroups present) × (r .size ≤ 6) ⌝ }
+{
+    GroupsAsked {
+        fits: true,
+        one: true,
+        listed: true,
+        size: width_if(present, 6),
+    }
 }
 
 // What questions 8, 10, 11 and 15 find of a location demand or accept, and the lengths of its list's content and of its own.

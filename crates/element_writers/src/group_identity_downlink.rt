@@ -1,13 +1,14 @@
 // Group identity downlink (EN 300 392-2, clause 16.10.22).
 ghost use mathlib.Core.Path.{_≡_};
 ghost use Prim.Native.Nat.{_*_, _≤_};
+ghost use mathlib.Core.List.{[], _∷_};
 ghost use lib.ListN.{take};
 ghost use Rattle.bits.specs.Placed.{asPlace};
 ghost use Rattle.bits.specs.Written.{Holds, written, bitsIn};
 ghost use Rattle.bits.specs.PutsLaws.{Puts};
 ghost use Rattle.element_writers.specs.GroupsAsked.{askedOf, askedEach, askedList};
 ghost use Rattle.elements.specs.Locations.{groupIdentityDownlink};
-ghost use Rattle.element_writers.specs.WrittenElements.{listParts, outerListParts, nestedParts};
+ghost use Rattle.element_writers.specs.WrittenElements.{listFrontBits, listParts, outerListParts, nestedParts};
 ghost use Rattle.element_writers.specs.GroupParts.{downlinkFront, downlinkBack, downlinkParts};
 ghost use Rattle.elements.specs.Lists.{downlinks, each};
 use crate::group_address::GroupsAsked;
@@ -16,6 +17,7 @@ use crate::group_address::address_size;
 use crate::group_address::at_most_63;
 use crate::group_address::below_if;
 use crate::group_address::downlink_type;
+use crate::group_address::no_groups;
 use crate::group_identity_attachment::attachment_fits;
 use crate::group_identity_attachment::kind_of;
 use crate::group_identity_attachment::then_attachment;
@@ -160,12 +162,15 @@ pub fn ask_downlinks(list: OptionalDownlinks) -> GroupsAsked
             size: 6 + a.size,
         };
     }
-    GroupsAsked {
-        fits: true,
-        one: true,
-        listed: true,
-        size: 0,
-    }
+    no_groups(false)
+}
+
+// What stands before a list's groups: the header, `size` being the length of the content, and the count.
+fn put_list_front(m: Place, octets: &mut [u8], count: usize, size: usize) -> Place
+    ensures { λ r. ⌜ Puts (listFrontBits groupIdentityDownlink size count ∷ []) (written (now (octets .entry)) (asPlace m)) (written (now (octets .exit)) (asPlace r)) ⌝ }
+{
+    let h = element_header(GROUP_IDENTITY_DOWNLINK, size);
+    m.put(octets, h.then(count as u64, 6))
 }
 
 // The list as an element, `size` being the length of its content.
@@ -174,12 +179,12 @@ pub(crate) fn put_list(m: Place, octets: &mut [u8], list: OptionalDownlinks, siz
 {
     let count = list.count;
     let groups = list.groups;
-    let h = element_header(GROUP_IDENTITY_DOWNLINK, size);
-    let m1 = m.put(octets, h.then(count as u64, 6));
+    let m1 = put_list_front(m, octets, count, size);
     put_downlinks(m1, octets, groups, at_most_63(count))
 }
 
-// A structure that holds the list: what stands before, the O-bit, and if it is present the list and the closing M-bit.
+// A structure that holds the list: what stands before, the O-bit, and if it is present the list and the closing M-bit. The groups
+// are handed on only where there are some: `put_list` has a second caller, so that its list is copied for the call.
 pub(crate) fn put_nested(
     m: Place,
     octets: &mut [u8],
@@ -193,8 +198,12 @@ pub(crate) fn put_nested(
     let listed = list.present;
     let m1 = m.put(octets, front.then(bit_of(listed), 1));
     if listed {
-        let m2 = put_list(m1, octets, list, size);
-        return m2.put(octets, NO_DIGITS.then(0, 1));
+        if 0 < list.count {
+            let m2 = put_list(m1, octets, list, size);
+            return m2.put(octets, NO_DIGITS.then(0, 1));
+        }
+        let m3 = put_list_front(m1, octets, 0, size);
+        return m3.put(octets, NO_DIGITS.then(0, 1));
     }
     m1
 }

@@ -8,6 +8,7 @@ ghost use Rattle.element_writers.specs.LocationAsked.{acceptLocationAske
 use crate::group_address::LocationAsked;
 use crate::group_address::NO_LOCATION;
 use crate::group_address::location_of;
+use crate::group_address::no_groups;
 use crate::group_identity_downlink::ask_downlinks;
 use crate::group_identity_downlink::put_nested;
 use crate::typed_pdu_fields::element_header;
@@ -23,8 +24,11 @@ pub fn ask_location_accept(o: OptionalLocationAccept) -> LocationAsked
         let location = o.value;
         let number = location.group_identity_accept_reject;
         let list = location.group_identity_downlink;
-        let a = ask_downlinks(list);
-        return location_of(number < 2, list.present, a);
+        if list.present & (0 < list.count) {
+            let a = ask_downlinks(list);
+            return location_of(number < 2, list.present, a);
+        }
+        return location_of(number < 2, list.present, no_groups(list.present));
     }
     NO_LOCATION
 }

@@ -15,6 +15,7 @@ use crate::group_address::address_fits;
 use crate::group_address::address_size;
 use crate::group_address::at_most_63;
 use crate::group_address::below_if;
+use crate::group_address::no_groups;
 use crate::group_address::uplink_type;
 use crate::group_identity_attachment::kind_of;
 use crate::typed_pdu_fields::bit_of;
@@ -156,12 +157,7 @@ pub fn ask_uplinks(list: OptionalUplinks) -> GroupsAsked
             size: 6 + a.size,
         };
     }
-    GroupsAsked {
-        fits: true,
-        one: true,
-        listed: true,
-        size: 0,
-    }
+    no_groups(false)
 }
 
 // The list as an element, `size` being the length of its content.

@@ -13,8 +13,8 @@ use lib.Seq.{length-take-le, take-add, drop-drop}
 use Rattle.bits.specs.PduParseError.{bufferEnded}
 use Rattle.bits.specs.Bits.{Bits, number, digits}
 use Rattle.bits.specs.BitsLaws.{number-lt, number-append}
-use Rattle.bits.specs.Reader.{got, refused, _>>=_, field, Local}
-use Rattle.bits.specs.ReaderLaws.{then-then, local·rules, local-tail, got-local, bind-local, field-local, field-enough, field-short, Passes, field-passes, got-passes, bind-passes}
+use Rattle.bits.specs.Reader.{Reader, got, refused, _>>=_, field, Local}
+use Rattle.bits.specs.ReaderLaws.{then-then, then-same, local·rules, local-tail, got-local, bind-local, field-local, field-enough, field-short, Passes, field-passes, got-passes, bind-passes}
 use Rattle.bits.specs.Placed.{window, placed, halted}
 use Rattle.bits.specs.PlacedLaws.{Gives, step, stop, done}
 use Rattle.bits.specs.PlacedTimes.{alike}
@@ -150,19 +150,29 @@ numbers-short (w ∷ ws) bs h = go (leb w (length bs)) refl (numbers-short ws (d
     go true e more = rw (field-enough w bs (leb-true _ _ e), more (omega (arith, length-drop w bs, leb-true w (length bs) e)))
     go false e more = rw (field-short w bs (leb-false _ _ e))
 
--- numbers one after the other are one field, split
-pub numbers-word : (ws : List ℕ) (bs : Bits) → numbers ws bs ≡ (field (sum ws) >>= λ v. got (split ws v)) bs
+-- numbers one after the other are one field, split; and so is what is made of them
+numbers-word : (ws : List ℕ) (bs : Bits) → numbers ws bs ≡ (field (sum ws) >>= λ v. got (split ws v)) bs
 numbers-word ws bs = go (leb (sum ws) (length bs)) refl
   where
     go : (b : Bool) → leb (sum ws) (length bs) ≡ b → numbers ws bs ≡ (field (sum ws) >>= λ v. got (split ws v)) bs
     go true e = let h : sum ws ≤ length bs = leb-true _ _ e in rw (field-enough (sum ws) bs h) (numbers-enough ws bs h)
     go false e = let h : length bs < sum ws = leb-false _ _ e in rw (field-short (sum ws) bs h) (numbers-short ws bs h)
 
+pub numbers-as : {A : Type 0} (ws : List ℕ) (f : List ℕ → A) (bs : Bits)
+    → (numbers ws >>= λ vs. got (f vs)) bs ≡ (field (sum ws) >>= λ v. got (f (split ws v))) bs
+numbers-as ws f bs = rw (numbers-word ws bs) (then-then (field (sum ws) bs) _ _)
+
+-- the first of some numbers, and the others
+pub numbers-first : {B : Type 0} (w : ℕ) (ws : List ℕ) (f : List ℕ → Reader B) (bs : Bits)
+    → (numbers (w ∷ ws) >>= f) bs ≡ (field w >>= λ v. numbers ws >>= λ vs. f (v ∷ vs)) bs
+unfolding numbers
+numbers-first w ws f bs = then-then (field w bs) _ f ∙ then-same (field w bs) (λ v rest. then-then (numbers ws rest) _ f)
+
 -- ## the class of MS is one field of 24 bits, split
 
 class-word : (bs : Bits) → classOfMs bs ≡ (field 24 >>= λ v. got (classOf (split classWidths v))) bs
 unfolding classOfMs sum
-class-word bs = rw (numbers-word classWidths bs) (then-then (field 24 bs) _ _)
+class-word = numbers-as classWidths classOf
 
 module _ {os : List ℕ} {c : Cursor} where
   pub class-there : {v : ℕ} {k : Cursor} → Gives (field 24) os c (placed v k) → Gives classOfMs os c (placed (classOf (split classWidths v)) k)

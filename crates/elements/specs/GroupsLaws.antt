@@ -1,18 +1,21 @@
 -- Laws of groups.
-use Prim.Native.Nat.{ℕ, suc, _+_, _^_, _≤_, _<_}
+use Prim.Native.Nat.{ℕ, suc, _+_, _/_, _%_, _^_, _≤_, _<_}
+use native.Mathlib.Nat.{div-one}
 use native.Mathlib.Numerals.{one-add}
 use native.Mathlib.Omega.{arith}
-use mathlib.Core.Path.{_≡_, refl}
+use mathlib.Core.Path.{_≡_, refl, sym, _∙_}
 use mathlib.Core.Bool.{Bool, true, false, cond, _||_, Bool·beq}
 use mathlib.Core.Option.{Option, none, some}
 use mathlib.Core.List.{List, [], _∷_, _++_, append-assoc}
-use lib.ListN.{length}
+use lib.ListN.{length, getD}
 use lib.Dec.{eqb, lit<, lit≤}
 use Rattle.bits.specs.Bits.{Bits, digits}
-use Rattle.bits.specs.Reader.{Reader, got, field, optional, Local}
-use Rattle.bits.specs.ReaderLaws.{local·rules, field-back, split-then}
+use Rattle.bits.specs.Reader.{Reader, got, _>>=_, field, optional, Local}
+use Rattle.bits.specs.ReaderLaws.{then-same, local·rules, field-back, split-then}
 use Rattle.elements.specs.Numbers.{isPresent, valueOr, held, optionalNumber, optionAll, inWidth, flagWidth, Same}
 use Rattle.elements.specs.NumbersLaws.{never, both, optional-same-back, number-back, optionalNumber-back, held-option, same-held, same-self}
+use Rattle.elements.specs.ClassOfMs.{numbers}
+use Rattle.elements.specs.ClassOfMsLaws.{sum, split, numbers-as, numbers-first}
 use Rattle.elements.specs.Groups.{addressTypeWidth, addressWidth, Form, uplinkForms, downlinkForms, formAt, sameForm, typeOf, listedForm, Address, addressOf, formOf, addressBits, addressFits, typedAddress, uplinkAddress, downlinkAddress, detachmentWidth, classOfUsageWidth, attachment, detachment, kindOf, differ, groupWith, groupBits, groupFits, uplinkOf, uplink, uplinkClass, uplinkDetachment, uplinkAddressIn, uplinkBits, uplinkFits, uplinkOne, uplinkListed, uplinkNormal, SameUplink, lifetimeWidth, attachmentInfo, noAttachment, downlinkOf, downlink, downlinkAttachment, downlinkDetachment, downlinkAddressIn, attachmentBits, attachmentFits, downlinkBits, downlinkFits, downlinkOne, downlinkListed, downlinkNormal, SameDownlink}
 use Rattle.elements.specs.declared.group_identity_attachment.GroupIdentityAttachment.{GroupIdentityAttachment}
 use Rattle.elements.specs.declared.group_identity_uplink.GroupIdentityUplink.{GroupIdentityUplink}
@@ -31,6 +34,17 @@ downlinkAddress-local = search local·rules depth 16
 pub attachmentInfo-local : Local attachmentInfo
 unfolding attachmentInfo
 attachmentInfo-local = search local·rules depth 8
+
+-- lifetime and class of usage are one field
+pub attachment-word : (bs : Bits)
+    → attachmentInfo bs ≡ (field 5 >>= λ v. got (record { «group_identity_attachment_lifetime» = v / 8 % 4; «class_of_usage» = v % 8 })) bs
+unfolding attachmentInfo numbers sum split
+attachment-word bs =
+    sym (numbers-first lifetimeWidth (classOfUsageWidth ∷ []) (λ vs. got (said vs)) bs ∙ then-same (field lifetimeWidth bs) (λ l cs. numbers-first classOfUsageWidth [] (λ vs. got (said (l ∷ vs))) cs))
+    ∙ numbers-as (lifetimeWidth ∷ classOfUsageWidth ∷ []) said bs ∙ then-same (field 5 bs) (λ v rest. rw (div-one v))
+  where
+    said : List ℕ → GroupIdentityAttachment
+    said vs = record { «group_identity_attachment_lifetime» = getD vs 0 0; «class_of_usage» = getD vs 1 0 }
 
 pub uplink-local : Local uplink
 unfolding uplink

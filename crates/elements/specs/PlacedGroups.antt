@@ -13,7 +13,7 @@ use Rattle.bits.specs.PlacedLaws.{Gives, step, stop, done}
 use Rattle.bits.specs.PlacedTimes.{alike}
 use Rattle.bits.specs.declared.bitbuffer.Cursor.{Cursor}
 use Rattle.elements.specs.Numbers.{flagWidth, optionalNumber, u8Of}
-use Rattle.elements.specs.Groups.{addressTypeWidth, addressWidth, Form, formAt, Address, addressOf, typedAddress, uplinkAddress, downlinkAddress, classOfUsageWidth, lifetimeWidth, detachmentWidth, attachment, detachment, attachmentInfo, groupWith, uplinkOf, downlinkOf}
+use Rattle.elements.specs.Groups.{addressTypeWidth, addressWidth, Form, formAt, Address, addressOf, typedAddress, uplinkAddress, downlinkAddress, classOfUsageWidth, detachmentWidth, attachment, detachment, attachmentInfo, groupWith, uplinkOf, downlinkOf}
 use Rattle.elements.specs.GroupsLaws.{uplinkAddress-local, downlinkAddress-local, attachmentInfo-local}
 use Rattle.elements.specs.Answers.{u32Of, optionalU8, optionalU32}
 use Rattle.elements.specs.GroupAnswers.{addressFrom, groupAddress, addressRead, attachmentOf}
@@ -89,21 +89,6 @@ module _ (forms : List Form) where
       let g : Gives (addressRead (addressOf (formAt forms t))) os k x = record { eq = rw h (sym p) } in
       sym (alike (field addressTypeWidth >>= λ t. addressRead (addressOf (formAt forms t))) (typed-is (window os c))
       (step (λ t. addressRead (addressOf (formAt forms t))) e (local-tail (field-local addressTypeWidth)) g) .eq)
-
--- ## what an attachment says
-
-module _ {os : List ℕ} {c : Cursor} {l : ℕ} {c₁ : Cursor} (e₁ : Gives (field lifetimeWidth) os c (placed l c₁)) where
-  behind-lifetime : {x : Placed GroupIdentityAttachment}
-      → Gives (field classOfUsageWidth >>= λ u. got (record { «group_identity_attachment_lifetime» = l; «class_of_usage» = u })) os c₁ x → Gives attachmentInfo os c x
-  unfolding attachmentInfo
-  behind-lifetime g = step _ e₁ (search local·rules) g
-
-  pub no-class : {m : ℕ} → Gives (field classOfUsageWidth) os c₁ (halted m) → Gives attachmentInfo os c (halted m)
-  no-class e = behind-lifetime (stop _ e)
-
-  pub whole-attachment : {u : ℕ} {c₂ : Cursor} → Gives (field classOfUsageWidth) os c₁ (placed u c₂)
-      → Gives attachmentInfo os c (placed (record { «group_identity_attachment_lifetime» = l; «class_of_usage» = u }) c₂)
-  whole-attachment e = behind-lifetime (step _ e (search local·rules) done)
 
 -- ## groups
 

@@ -2,13 +2,13 @@
 use Prim.Native.Nat.{ℕ, _+_, _-_, _≤_, _<_, _^_}
 use native.Mathlib.Omega.{arith}
 use mathlib.Core.Path.{_≡_, refl, sym, _∙_, ap}
-use mathlib.Core.Bool.{Bool, true, false}
+use mathlib.Core.Bool.{Bool, true, false, _&&_}
 use mathlib.Core.Option.{none, some}
 use mathlib.Core.List.{List, _++_}
 use lib.ListN.{length, take, drop, set, replicate, length-set}
 use lib.Seq.{length-take-le}
-use lib.Dec.{leb}
-use borrow.Author.Tests.{le-leb, lt-leb, eq-eqb}
+use lib.Dec.{leb, eqb}
+use borrow.Author.Tests.{le-leb, lt-leb, eq-eqb, eqb-true}
 use Rattle.bits.specs.Bits.{Bits}
 use Rattle.bits.specs.PduParseError.{type4Underflow, inconsistentLength}
 use Rattle.bits.specs.Reader.{Answer, got, refused, Reader, then, _>>=_, field, unless, times, Tail}
@@ -19,6 +19,7 @@ use Rattle.bits.specs.PlacedTimes.{alike, exact, inexact, exact-stop, passed, f
 use Rattle.bits.specs.declared.bitbuffer.Cursor.{Cursor}
 use Rattle.elements.specs.Generics.{entriesWidth, entries}
 use Rattle.elements.specs.Numbers.{valueOr}
+use Rattle.elements.specs.NumbersLaws.{both}
 use Rattle.elements.specs.Table.{lengthWidth, look, Header, header, slot}
 use Rattle.elements.specs.TableLaws.{two-slots, slot-cases, slot-tail}
 use Rattle.elements.specs.Lists.{Groups, listAs, listOf, groupsAs, list, entriesMost}
@@ -191,3 +192,13 @@ module _ {G L : Type 0} {k : Groups G L} (s : Sound k) (i : ℕ) (b : Bool) {os 
 
     pub list-inexact : (place .at - c₁ .at ≡ f .len → ⊥) → Gives (nestedSlotIf k i b) os c (halted inconsistentLength)
     list-inexact q = behind (inexact _ all-there (local-tail (entries-local s _ _)) q)
+
+-- a list without groups, and without bits for them
+pub list-none : {G L : Type 0} {k : Groups G L} (s : Sound k) (i : ℕ) (b : Bool) {os : List ℕ} {c : Cursor} {f : ListFront} {c₁ : Cursor}
+    → Gives (listFront i b) os c (placed f c₁) → (eqb (f .count) 0 && eqb (f .len) 0) ≡ true
+    → Gives (nestedSlotIf k i b) os c (placed (k .make (f .present) (f .count) (replicate entriesMost (k .zero))) c₁)
+list-none {k = k} s i b {f = f} e h =
+    let x = both (eqb (f .count) 0) _ h in
+    let n = eqb-true (f .count) 0 (x .0) in
+    let m = eqb-true (f .len) 0 (x .1) in
+    list-whole s i b e (filled-none k _) (omega arith) (omega arith)

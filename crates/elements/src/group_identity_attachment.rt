@@ -38,28 +38,24 @@ pub const NO_ATTACHMENT: GroupIdentityAttachment = GroupIdentityAttachment {
     class_of_usage: 0,
 };
 
-// Lifetime and class of usage, if they are there.
+// Lifetime (2 bits) and class of usage (3 bits), if they are there, read as one field.
 pub fn read_optional_attachment(c: Cursor, octets: &[u8], wanted: bool) -> AttachmentRead
     ensures { λ r. ⌜ asAttachment r ≡ at (optionalAttachment wanted attachmentInfo) (now (octets .entry)) c ⌝ }
 {
     if wanted {
-        let l = c.read_u8(octets, 2);
-        let Field8::Value(lifetime, c1) = l else {
-            return AttachmentRead::Refused(l.refusal());
-        };
-        let u = c1.read_u8(octets, 3);
-        let Field8::Value(class_of_usage, c2) = u else {
-            return AttachmentRead::Refused(u.refusal());
+        let f = c.read_u8(octets, 5);
+        let Field8::Value(v, c1) = f else {
+            return AttachmentRead::Refused(f.refusal());
         };
         return AttachmentRead::Read(
             OptionalAttachment {
                 present: true,
                 value: GroupIdentityAttachment {
-                    group_identity_attachment_lifetime: lifetime,
-                    class_of_usage: class_of_usage,
+                    group_identity_attachment_lifetime: v / 8 % 4,
+                    class_of_usage: v % 8,
                 },
             },
-            c2,
+            c1,
         );
     }
     AttachmentRead::Read(

@@ -89,6 +89,20 @@ pub fn no_downlinks() -> OptionalDownlinks
     }
 }
 
+impl OptionalDownlinks {
+    // The same, taken part by part: taken whole, what stands behind `present` is copied off its alignment.
+    pub fn part_by_part(self) -> OptionalDownlinks
+        ensures { λ r. ⌜ r ≡ self ⌝ }
+    {
+        let groups = self.groups;
+        OptionalDownlinks {
+            present: self.present,
+            count: self.count,
+            groups: groups,
+        }
+    }
+}
+
 impl GroupIdentityDownlink {
     pub fn from_bitbuf(c: Cursor, octets: &[u8]) -> DownlinkRead
         ensures { λ r. ⌜ asDownlink r ≡ at downlink (now (octets .entry)) c ⌝ }
@@ -128,7 +142,8 @@ impl GroupIdentityDownlink {
     }
 }
 
-// The slot of a list of groups, where there is such a slot: the list has to end where its length said.
+// The slot of a list of groups, where there is such a slot: the list has to end where its length said. A list without groups is
+// given at once: an array that nothing is put into needn't be copied.
 pub fn read_downlinks_slot(c: Cursor, octets: &[u8], there: bool, identifier: u8) -> DownlinksRead
     ensures { λ r. ⌜ r ≡ downlinksAnswer (at (nestedSlotIf downlinks identifier there) (now (octets .entry)) c) ⌝ }
 {
@@ -139,6 +154,18 @@ pub fn read_downlinks_slot(c: Cursor, octets: &[u8], there: bool, identifier: u8
             list: no_downlinks(),
         };
     };
+    if (front.count == 0) & (front.len == 0) {
+        let none = [ZERO; 63];
+        let present = front.present;
+        return DownlinksRead {
+            verdict: Moved::To(first),
+            list: OptionalDownlinks {
+                present: present,
+                count: front.count,
+                groups: none,
+            },
+        };
+    }
     let mut groups = [ZERO; 63];
     let mut place = first;
     let mut i: usize = 0;

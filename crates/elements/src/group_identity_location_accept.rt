@@ -47,6 +47,23 @@ pub fn no_location_accept() -> GroupIdentityLocationAccept
     }
 }
 
+impl OptionalLocationAccept {
+    // The same, its list taken part by part.
+    pub fn part_by_part(self) -> OptionalLocationAccept
+        ensures { λ r. ⌜ r ≡ self ⌝ }
+    {
+        let value = self.value;
+        let list = value.group_identity_downlink;
+        OptionalLocationAccept {
+            present: self.present,
+            value: GroupIdentityLocationAccept {
+                group_identity_accept_reject: value.group_identity_accept_reject,
+                group_identity_downlink: list.part_by_part(),
+            },
+        }
+    }
+}
+
 impl GroupIdentityLocationAccept {
     // The content of `len` bits: two bits, the O-bit, and behind an O-bit of 1 the list's slot and the closing M-bit. It has to
     // end where its length said.
@@ -97,7 +114,7 @@ impl GroupIdentityLocationAccept {
                 verdict: Moved::To(c5),
                 location: GroupIdentityLocationAccept {
                     group_identity_accept_reject: accept_reject,
-                    group_identity_downlink: list,
+                    group_identity_downlink: list.part_by_part(),
                 },
             };
         }

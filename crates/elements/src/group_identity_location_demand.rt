@@ -48,6 +48,23 @@ pub fn no_location_demand() -> GroupIdentityLocationDemand
     }
 }
 
+impl OptionalLocationDemand {
+    // The same, its list taken part by part.
+    pub fn part_by_part(self) -> OptionalLocationDemand
+        ensures { λ r. ⌜ r ≡ self ⌝ }
+    {
+        let value = self.value;
+        let list = value.group_identity_uplink;
+        OptionalLocationDemand {
+            present: self.present,
+            value: GroupIdentityLocationDemand {
+                group_identity_attach_detach_mode: value.group_identity_attach_detach_mode,
+                group_identity_uplink: list.part_by_part(),
+            },
+        }
+    }
+}
+
 impl GroupIdentityLocationDemand {
     // The content of `len` bits: two bits, the O-bit, and behind an O-bit of 1 the list's slot and the closing M-bit. It has to
     // end where its length said.
@@ -104,7 +121,7 @@ impl GroupIdentityLocationDemand {
                 verdict: Moved::To(c5),
                 location: GroupIdentityLocationDemand {
                     group_identity_attach_detach_mode: mode,
-                    group_identity_uplink: list,
+                    group_identity_uplink: list.part_by_part(),
                 },
             };
         }

@@ -84,6 +84,20 @@ pub fn no_uplinks() -> OptionalUplinks
     }
 }
 
+impl OptionalUplinks {
+    // The same, taken part by part: taken whole, what stands behind `present` is copied off its alignment.
+    pub fn part_by_part(self) -> OptionalUplinks
+        ensures { λ r. ⌜ r ≡ self ⌝ }
+    {
+        let groups = self.groups;
+        OptionalUplinks {
+            present: self.present,
+            count: self.count,
+            groups: groups,
+        }
+    }
+}
+
 impl GroupIdentityUplink {
     pub fn from_bitbuf(c: Cursor, octets: &[u8]) -> UplinkRead
         ensures { λ r. ⌜ asUplink r ≡ at uplink (now (octets .entry)) c ⌝ }
@@ -122,7 +136,8 @@ impl GroupIdentityUplink {
     }
 }
 
-// The slot of a list of groups, where there is such a slot: the list has to end where its length said.
+// The slot of a list of groups, where there is such a slot: the list has to end where its length said. A list without groups is
+// given at once: an array that nothing is put into needn't be copied.
 pub fn read_uplinks_slot(c: Cursor, octets: &[u8], there: bool, identifier: u8) -> UplinksRead
     ensures { λ r. ⌜ r ≡ uplinksAnswer (at (nestedSlotIf uplinks identifier there) (now (octets .entry)) c) ⌝ }
 {
@@ -133,6 +148,18 @@ pub fn read_uplinks_slot(c: Cursor, octets: &[u8], there: bool, identifier: u8) 
             list: no_uplinks(),
         };
     };
+    if (front.count == 0) & (front.len == 0) {
+        let none = [ZERO; 63];
+        let present = front.present;
+        return UplinksRead {
+            verdict: Moved::To(first),
+            list: OptionalUplinks {
+                present: present,
+                count: front.count,
+                groups: none,
+            },
+        };
+    }
     let mut groups = [ZERO; 63];
     let mut place = first;
     let mut i: usize = 0;

@@ -5,7 +5,6 @@ ghost use mathlib.Core.Bool.{true};
 ghost use Prim.Native.Nat.{_+_, min};
 ghost use Rattle.bits.specs.Reader.{word};
 ghost use Rattle.bits.specs.Placed.{at, asField, asMoved, refusal};
-ghost use Rattle.bits.specs.Bits.{bit};
 ghost use Rattle.elements.specs.Numbers.{u8Of, u64Of, type2As};
 ghost use Rattle.elements.specs.Generics.{dataWidth, kept};
 ghost use Rattle.elements.specs.Table.{closing, isListed};

@@ -1,7 +1,7 @@
 -- A reading call's answer as it is measured, by the verdict of the message's reader; 64 times the bits consumed fit a word.
 use Prim.Native.Nat.{ℕ, _-_, _*_, _≤_, _<_, _^_}
 use native.Mathlib.Omega.{arith}
-use mathlib.Core.Path.{_≡_, refl, sym, ap, _∙_}
+use mathlib.Core.Path.{_≡_, refl, ap, _∙_}
 use mathlib.Core.Bool.{Bool, true, false, cond}
 use mathlib.Core.List.{List}
 use lib.ListN.{length}
@@ -14,20 +14,12 @@ use Rattle.elements.specs.Answers.{asSkipped}
 use Rattle.elements.specs.Table.{Counted}
 use Rattle.elements.specs.declared.typed_pdu_fields.Skipped.{Skipped}
 use Rattle.elements.specs.declared.typed_pdu_fields.Skipped.the-variants as S
-use Rattle.messages.specs.Head.{uLocationUpdateDemand, dLocationUpdateAccept, dAttachDetachGroupIdentity}
-use Rattle.messages.specs.MessageAnswers.{demandAnswer, acceptAnswer, attachDetachAnswer}
-use Rattle.messages.specs.Calls.{messageOf, readMessage, goodCall, windowOf, noRecord, ofDemand, ofAccept, ofAttachDetach, noReading, readingOf, reading}
-use Rattle.messages.specs.PlacedCalls.{accepted, called, Own, taken, own-demand, own-accept, own-attach-detach, call-taken, call-refused, bad-call, place-inside}
-use Rattle.messages.specs.declared.u_location_update_demand.ULocationUpdateDemand.{ULocationUpdateDemand}
-use Rattle.messages.specs.declared.d_location_update_accept.DLocationUpdateAccept.{DLocationUpdateAccept}
-use Rattle.messages.specs.declared.d_attach_detach_group_identity.DAttachDetachGroupIdentity.{DAttachDetachGroupIdentity}
+use Rattle.messages.specs.Calls.{messageOf, readMessage, goodCall, windowOf, noReading, readingOf, reading}
+use Rattle.messages.specs.PlacedCalls.{accepted, called, Own, taken, call-taken, call-refused, bad-call, place-inside}
 use Rattle.messages.specs.declared.Record.{Record}
 use Rattle.messages.specs.declared.Reading.{Reading}
 use Rattle.messages.specs.declared.Verdict.the-variants.{Accepted}
 use Rattle.measure.specs.Measured.{consumedAndRefusal}
-use Rattle.measure.specs.declared.MeasuredDemand.{MeasuredDemand}
-use Rattle.measure.specs.declared.MeasuredAccept.{MeasuredAccept}
-use Rattle.measure.specs.declared.MeasuredAttachDetach.{MeasuredAttachDetach}
 
 module _ (m how : ℕ) (os : List ℕ) (first end : ℕ) where
   consumed-inside : reading m how os first end .consumed ≤ reading m how os first end .place
@@ -55,63 +47,27 @@ of-read r v = rw v (omega arith)
 of-refused : (n first : ℕ) → n ≡ consumedAndRefusal (noReading n first)
 of-refused n first = omega arith
 
--- ## a message's own record beside the number
-
--- a message whose reader's answer holds a verdict and the own record, which `pick` takes out of the call's
-pub record Measuring (m : ℕ) {X R M : Type 0} (f : Placed (Counted Record) → X) (verdict : X → Skipped) (own : X → R) (with : R → ℕ → M) (pick : Record → R)
-    : Type 0 where
-  pub of : R → Record
-  pub owned : Own (messageOf m) f verdict own of
-  pub picked : (r : R) → pick (of r) ≡ r
-
-module _ {m : ℕ} {X R M : Type 0} {f : Placed (Counted Record) → X} {verdict : X → Skipped} {own : X → R} {with : R → ℕ → M} {pick : Record → R}
-    (d : Measuring m f verdict own with pick) (how : ℕ) (os : List ℕ) (first end : ℕ) where
-  abbrev measured : Reading → M
-  measured r = with (pick (r .«record»)) (consumedAndRefusal r)
-
-  refused-with : (n : ℕ) → noReading n first ≡ reading m how os first end → with (pick noRecord) n ≡ measured (reading m how os first end)
-  refused-with n e = ap (with (pick noRecord)) (of-refused n first) ∙ ap measured e
-
-  pub measured-bad : goodCall m how (length os) first end ≡ false → with (pick noRecord) badCall ≡ measured (reading m how os first end)
-  measured-bad g = refused-with badCall (bad-call m how os first end g)
+-- a message whose reader's answer holds a verdict and its own record
+module _ (m : ℕ) {X R : Type 0} {f : Placed (Counted Record) → X} {verdict : X → Skipped} {own : X → R} {of : R → Record} (d : Own (messageOf m) f verdict own of)
+    (how : ℕ) (os : List ℕ) (first end : ℕ) where
+  pub measured-bad : goodCall m how (length os) first end ≡ false → badCall ≡ consumedAndRefusal (reading m how os first end)
+  measured-bad g = of-refused badCall first ∙ ap consumedAndRefusal (bad-call m how os first end g)
 
   module _ (good : goodCall m how (length os) first end ≡ true) {y : X} (e : y ≡ f (at (readMessage (messageOf m) (eqb how 1)) os (record { at = first; end = end }))) where
-    pub measured-refused : {i n : ℕ} → verdict y ≡ S.Refused i → n ≡ refusal (asSkipped (verdict y))
-        → with (pick noRecord) n ≡ measured (reading m how os first end)
-    measured-refused {n = n} v number =
-        refused-with n (call-refused m how os first end (d .owned) good e v number)
+    pub measured-refused : {i n : ℕ} → verdict y ≡ S.Refused i → n ≡ refusal (asSkipped (verdict y)) → n ≡ consumedAndRefusal (reading m how os first end)
+    measured-refused {n = n} v number = of-refused n first ∙ ap consumedAndRefusal (call-refused m how os first end d good e v number)
 
     pub record Measured (k : Cursor) : Type 0 where
       pub on : first ≤ k .at
       pub few : 64 * (k .at - first) < 2 ^ 64
-      pub answer : with (own y) (64 * (k .at - first)) ≡ measured (reading m how os first end)
+      pub answer : 64 * (k .at - first) ≡ consumedAndRefusal (reading m how os first end)
 
     pub measured-read : {n : ℕ} {k : Cursor} → verdict y ≡ S.Count n k → Measured k
     measured-read {n} {k} v =
-        let r : Reading = accepted first n k (d .of (own y)) in
-        let is : r ≡ reading m how os first end = call-taken m how os first end (d .owned) good e v in
+        let r : Reading = accepted first n k (of (own y)) in
+        let is : r ≡ reading m how os first end = call-taken m how os first end d good e v in
         record {
-          on = taken (messageOf m) (d .owned) (eqb how 1) os (record { at = first; end = end }) e v .on;
+          on = taken (messageOf m) d (eqb how 1) os (record { at = first; end = end }) e v .on;
           few = few-consumed m how os first end is refl;
-          answer = ap (λ (x : R). with x (64 * (k .at - first))) (sym (d .picked (own y))) ∙ ap (with (pick (d .of (own y)))) (of-read r refl) ∙ ap measured is;
+          answer = of-read r refl ∙ ap consumedAndRefusal is;
         }
-
--- ## the three messages
-
-abbrev demandWith : ULocationUpdateDemand → ℕ → MeasuredDemand
-demandWith r x = record { answer = x; «record» = r }
-
-pub demands : Measuring uLocationUpdateDemand demandAnswer (λ a. a .verdict) (λ a. a .«record») demandWith (λ r. r .demand)
-demands = record { of = ofDemand; owned = own-demand; picked = λ r. refl }
-
-abbrev acceptWith : DLocationUpdateAccept → ℕ → MeasuredAccept
-acceptWith r x = record { answer = x; «record» = r }
-
-pub accepts : Measuring dLocationUpdateAccept acceptAnswer (λ a. a .verdict) (λ a. a .«record») acceptWith (λ r. r .accept)
-accepts = record { of = ofAccept; owned = own-accept; picked = λ r. refl }
-
-abbrev attachDetachWith : DAttachDetachGroupIdentity → ℕ → MeasuredAttachDetach
-attachDetachWith r x = record { answer = x; «record» = r }
-
-pub attach-detaches : Measuring dAttachDetachGroupIdentity attachDetachAnswer (λ a. a .verdict) (λ a. a .«record») attachDetachWith (λ r. r .«attach_detach»)
-attach-detaches = record { of = ofAttachDetach; owned = own-attach-detach; picked = λ r. refl }

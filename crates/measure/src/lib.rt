@@ -5,7 +5,7 @@ ghost use Rattle.bits.specs.Placed.{at as atCursor, refusal};
 ghost use Rattle.bits.specs.Written.{writeField};
 ghost use Rattle.messages.specs.Head.{uLocationUpdateDemand, dLocationUpdateAccept, dAttachDetachGroupIdentity};
 ghost use Rattle.messages.specs.Calls.{ofDemand, ofAccept, ofAttachDetach, reading, writing, octetsWritten};
-ghost use Rattle.measure.specs.Measured.{valueOrRefusal, measuredDemand, measuredAccept, measuredAttachDetach};
+ghost use Rattle.measure.specs.Measured.{valueOrRefusal, consumedAndRefusal};
 ghost use Rattle.measure.specs.Repeated.{repeated};
 use bits::bitbuffer::Cursor;
 use bits::bitbuffer::Field;
@@ -17,14 +17,13 @@ use message_writers::write_demand;
 use messages::ACCEPT;
 use messages::ATTACH_DETACH;
 use messages::DEMAND;
+use messages::Record;
 use messages::SKIPPING;
 use messages::d_attach_detach_group_identity::DAttachDetachGroupIdentity;
-use messages::d_attach_detach_group_identity::no_attach_detach;
 use messages::d_location_update_accept::DLocationUpdateAccept;
-use messages::d_location_update_accept::no_accept;
 use messages::is_good_call;
+use messages::read;
 use messages::u_location_update_demand::ULocationUpdateDemand;
-use messages::u_location_update_demand::no_demand;
 
 // The value, or the refusal's number.
 #[no_mangle]
@@ -56,33 +55,11 @@ pub extern "C" fn measure_write(
     m.refusal() as u64
 }
 
-// A message read: 64 times the bits consumed plus the refusal's number, and the record.
-#[repr(C)]
-pub struct MeasuredDemand {
-    pub answer: u64,
-    pub record: ULocationUpdateDemand,
-}
-
-#[repr(C)]
-pub struct MeasuredAccept {
-    pub answer: u64,
-    pub record: DLocationUpdateAccept,
-}
-
-#[repr(C)]
-pub struct MeasuredAttachDetach {
-    pub answer: u64,
-    pub record: DAttachDetachGroupIdentity,
-}
-
+// A message read: 64 times the bits consumed plus the refusal's number. The record is made and left behind: each message's reader
+// has a second caller, `measure_record`, and so is a function of its own in the machine code.
 #[no_mangle]
-pub extern "C" fn measure_demand(
-    octets: &[u8],
-    first: usize,
-    end: usize,
-    wanted: u64,
-) -> MeasuredDemand
-    ensures { λ r. ⌜ r ≡ measuredDemand (reading uLocationUpdateDemand wanted (now (octets .entry)) first end) ⌝ }
+pub extern "C" fn measure_read_demand(octets: &[u8], first: usize, end: usize, wanted: u64) -> u64
+    ensures { λ r. ⌜ r ≡ consumedAndRefusal (reading uLocationUpdateDemand wanted (now (octets .entry)) first end) ⌝ }
 {
     if is_good_call(octets.len(), first, end, DEMAND, wanted) {
         let c = Cursor {
@@ -92,31 +69,16 @@ pub extern "C" fn measure_demand(
         let a = ULocationUpdateDemand::from_bitbuf(c, octets, wanted == SKIPPING);
         let v = a.verdict;
         let Skipped::Count(_, c1) = v else {
-            return MeasuredDemand {
-                answer: v.refusal() as u64,
-                record: no_demand(),
-            };
+            return v.refusal() as u64;
         };
-        let own = a.record;
-        return MeasuredDemand {
-            answer: 64 * (c1.at - first) as u64,
-            record: own,
-        };
+        return 64 * (c1.at - first) as u64;
     }
-    MeasuredDemand {
-        answer: BAD_CALL as u64,
-        record: no_demand(),
-    }
+    BAD_CALL as u64
 }
 
 #[no_mangle]
-pub extern "C" fn measure_accept(
-    octets: &[u8],
-    first: usize,
-    end: usize,
-    wanted: u64,
-) -> MeasuredAccept
-    ensures { λ r. ⌜ r ≡ measuredAccept (reading dLocationUpdateAccept wanted (now (octets .entry)) first end) ⌝ }
+pub extern "C" fn measure_read_accept(octets: &[u8], first: usize, end: usize, wanted: u64) -> u64
+    ensures { λ r. ⌜ r ≡ consumedAndRefusal (reading dLocationUpdateAccept wanted (now (octets .entry)) first end) ⌝ }
 {
     if is_good_call(octets.len(), first, end, ACCEPT, wanted) {
         let c = Cursor {
@@ -126,31 +88,21 @@ pub extern "C" fn measure_accept(
         let a = DLocationUpdateAccept::from_bitbuf(c, octets, wanted == SKIPPING);
         let v = a.verdict;
         let Skipped::Count(_, c1) = v else {
-            return MeasuredAccept {
-                answer: v.refusal() as u64,
-                record: no_accept(),
-            };
+            return v.refusal() as u64;
         };
-        let own = a.record;
-        return MeasuredAccept {
-            answer: 64 * (c1.at - first) as u64,
-            record: own,
-        };
+        return 64 * (c1.at - first) as u64;
     }
-    MeasuredAccept {
-        answer: BAD_CALL as u64,
-        record: no_accept(),
-    }
+    BAD_CALL as u64
 }
 
 #[no_mangle]
-pub extern "C" fn measure_attach_detach(
+pub extern "C" fn measure_read_attach_detach(
     octets: &[u8],
     first: usize,
     end: usize,
     wanted: u64,
-) -> MeasuredAttachDetach
-    ensures { λ r. ⌜ r ≡ measuredAttachDetach (reading dAttachDetachGroupIdentity wanted (now (octets .entry)) first end) ⌝ }
+) -> u64
+    ensures { λ r. ⌜ r ≡ consumedAndRefusal (reading dAttachDetachGroupIdentity wanted (now (octets .entry)) first end) ⌝ }
 {
     if is_good_call(octets.len(), first, end, ATTACH_DETACH, wanted) {
         let c = Cursor {
@@ -160,21 +112,26 @@ pub extern "C" fn measure_attach_detach(
         let a = DAttachDetachGroupIdentity::from_bitbuf(c, octets, wanted == SKIPPING);
         let v = a.verdict;
         let Skipped::Count(_, c1) = v else {
-            return MeasuredAttachDetach {
-                answer: v.refusal() as u64,
-                record: no_attach_detach(),
-            };
+            return v.refusal() as u64;
         };
-        let own = a.record;
-        return MeasuredAttachDetach {
-            answer: 64 * (c1.at - first) as u64,
-            record: own,
-        };
+        return 64 * (c1.at - first) as u64;
     }
-    MeasuredAttachDetach {
-        answer: BAD_CALL as u64,
-        record: no_attach_detach(),
-    }
+    BAD_CALL as u64
+}
+
+// The record of a message read, from which the messages below are written.
+#[no_mangle]
+pub extern "C" fn measure_record(
+    octets: &[u8],
+    first: usize,
+    end: usize,
+    message: u64,
+    wanted: u64,
+) -> Record
+    ensures { λ r. ⌜ r ≡ reading message wanted (now (octets .entry)) first end .«record» ⌝ }
+{
+    let a = read(octets, first, end, message, wanted);
+    a.record
 }
 
 // A message written: the number of bits, 0 with a refusal.

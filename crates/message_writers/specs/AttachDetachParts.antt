@@ -2,14 +2,16 @@
 use Prim.Native.Nat.{ℕ, _+_, _≤_}
 use native.Mathlib.Omega.{arith}
 use mathlib.Core.Path.{_≡_, refl, ap, ap₂, _∙_}
-use mathlib.Core.Bool.{Bool, true, cond, not, _||_, or-false}
+use mathlib.Core.Bool.{Bool, true, false, cond, not, _||_, or-false}
 use mathlib.Core.List.{List, [], _∷_, _++_, append-assoc, append-nil}
 use lib.ListN.{length, length-append}
 use borrow.Author.Tests.{not-true}
 use Rattle.bits.specs.Bits.{Bits, bit, digits}
 use Rattle.bits.specs.BitsLaws.{length-digits}
-use Rattle.bits.specs.Written.{joined}
-use Rattle.bits.specs.PutsLaws.{joined-append}
+use Rattle.bits.specs.Placed.{Placed}
+use Rattle.bits.specs.Written.{joined, written}
+use Rattle.bits.specs.WrittenLaws.{Octets}
+use Rattle.bits.specs.PutsLaws.{Puts, _⨾_, joined-append}
 use Rattle.elements.specs.Table.{mbitWidth}
 use Rattle.elements.specs.Numbers.{optionAll, flagWidth, optionMap}
 use Rattle.elements.specs.Generics.{type3Fits}
@@ -27,7 +29,8 @@ use Rattle.messages.specs.AttachDetach.{attachDetachHeadOf, attachDetachTable, 
 use Rattle.messages.specs.QuestionsLaws.{each-of}
 use Rattle.messages.specs.declared.d_attach_detach_group_identity.AttachDetachHead.{AttachDetachHead}
 use Rattle.messages.specs.declared.d_attach_detach_group_identity.DAttachDetachGroupIdentity.{DAttachDetachGroupIdentity}
-use Rattle.message_writers.specs.WritesLaws.{genericBits, kind-slot, type3-slot, type4-slot, slot-present, optional-length, InParts, in-parts}
+use Rattle.message_writers.specs.WritesLaws.{genericBits, neither, kind-slot, type3-slot, type4-slot, slot-present, optional-length, InParts, in-parts}
+use Rattle.message_writers.specs.Parts.{none-there}
 
 -- whether anything follows the O-bit
 abbrev pub attachDetachMore : DAttachDetachGroupIdentity → Bool
@@ -42,13 +45,25 @@ attachDetachFront h =
     (((digits pduTypeWidth dAttachDetachGroupIdentity ++ digits flagWidth (h .«group_identity_report»)) ++ digits flagWidth (h .«group_identity_acknowledgement_request»))
     ++ digits flagWidth (h .«group_identity_attach_detach_mode»)) ++ digits flagWidth (h .obit)
 
+-- the two generic elements before the list
+abbrev pub attachDetachGenerics : OptionalType3 → OptionalType3 → List Bits
+attachDetachGenerics p g = genericBits 15 p ∷ genericBits 4 g ∷ []
+
 -- the list's content has n bits
 abbrev pub attachDetachElements : OptionalType3 → OptionalType3 → ℕ → OptionalDownlinks → List Bits
-attachDetachElements p g n l = genericBits 15 p ∷ genericBits 4 g ∷ (outerListParts n l ++ (digits mbitWidth 0 ∷ []))
+attachDetachElements p g n l = attachDetachGenerics p g ++ (outerListParts n l ++ (digits mbitWidth 0 ∷ []))
 
 pub record GenericsFit (p g : OptionalType3) : Type 0 where
   pub first : optionAll type3Fits (type3Held p) ≡ true
   pub second : optionAll type3Fits (type3Held g) ≡ true
+
+-- neither is there
+pub generics-absent : (p g : OptionalType3) {os : List ℕ} {a : Placed Unit} → Octets os → (p .present || g .present) ≡ false
+    → Puts (attachDetachGenerics p g) (written os a) (written os a)
+generics-absent p g {os} {a} o h =
+    let x = neither (p .present) _ h in
+    let e : Puts ([] ∷ []) (written os a) (written os a) = none-there o in
+    rw (x .0, x .1) (e ⨾ e)
 
 front-length : (h : AttachDetachHead) → length (attachDetachFront h) ≡ 8
 unfolding digits

@@ -74,6 +74,10 @@ four-joined : (is : List ℕ) (g : FourGenerics)
 unfolding joined
 four-joined is g = rw (append-nil (digits mbitWidth 0))
 
+-- an absent element writes nothing
+pub none-there : {os : List ℕ} {a : Placed Unit} → Octets os → Puts ([] ∷ []) (written os a) (written os a)
+none-there {os} {a} o = one [] (write-nothing os a o)
+
 -- none of them is there: the M-bit alone
 pub four-absent : (is : List ℕ) (g : FourGenerics) {os : List ℕ} {a : Placed Unit} {v : Written} → Octets os
     → (g .first .present || (g .second .present || (g .third .present || g .fourth .present))) ≡ false
@@ -82,7 +86,7 @@ four-absent is g {os} {a} o h p =
     let x = neither (g .first .present) _ h in
     let y = neither (g .second .present) _ (x .1) in
     let z = neither (g .third .present) _ (y .1) in
-    let e : Puts ([] ∷ []) (written os a) (written os a) = one [] (write-nothing os a o) in
+    let e : Puts ([] ∷ []) (written os a) (written os a) = none-there o in
     rw (x .0, y .0, z .0, z .1) (e ⨾ (e ⨾ (e ⨾ (e ⨾ p))))
 
 -- the bits that the four and the M-bit have

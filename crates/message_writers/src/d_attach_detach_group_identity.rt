@@ -9,7 +9,7 @@ ghost use Rattle.elements.specs.Lists.{downlinks};
 ghost use Rattle.element_writers.specs.GroupsAsked.{askedList};
 ghost use Rattle.messages.specs.AttachDetach.{attachDetachBits, attachDetachAsked};
 ghost use Rattle.message_writers.specs.Writes.{writeMessage, Answered};
-ghost use Rattle.message_writers.specs.AttachDetachParts.{attachDetachHeadIn, attachDetachFront, attachDetachElements, GenericsFit};
+ghost use Rattle.message_writers.specs.AttachDetachParts.{attachDetachHeadIn, attachDetachFront, attachDetachGenerics, attachDetachElements, GenericsFit};
 use crate::parts::flag;
 use crate::questions::Answers;
 use bits::bitbuffer::Cursor;
@@ -87,6 +87,18 @@ fn ask(d: DAttachDetachGroupIdentity, list: GroupsAsked) -> Answers
     }
 }
 
+// The two generic elements before the list, if one of them is there.
+fn put_generics(m: Place, octets: &mut [u8], p: OptionalType3, g: OptionalType3) -> Place
+    requires { ⌜ GenericsFit p g ⌝ }
+    ensures { λ r. ⌜ Puts (attachDetachGenerics p g) (written (now (octets .entry)) (asPlace m)) (written (now (octets .exit)) (asPlace r)) ⌝ }
+{
+    if p.present | g.present {
+        let m1 = write_type3_generic(m, octets, PROPRIETARY, p);
+        return write_type3_generic(m1, octets, GROUP_REPORT_RESPONSE, g);
+    }
+    m
+}
+
 // The listed elements, and the closing M-bit; the list's content has `size` bits.
 fn put_elements(
     m: Place,
@@ -99,10 +111,9 @@ fn put_elements(
     requires { ⌜ GenericsFit p g ⌝ }
     ensures { λ r. ⌜ Puts (attachDetachElements p g size list) (written (now (octets .entry)) (asPlace m)) (written (now (octets .exit)) (asPlace r)) ⌝ }
 {
-    let m1 = write_type3_generic(m, octets, PROPRIETARY, p);
-    let m2 = write_type3_generic(m1, octets, GROUP_REPORT_RESPONSE, g);
-    let m3 = write_downlinks(m2, octets, list, size);
-    m3.put(octets, NO_DIGITS.then(0, 1))
+    let m1 = put_generics(m, octets, p, g);
+    let m2 = write_downlinks(m1, octets, list, size);
+    m2.put(octets, NO_DIGITS.then(0, 1))
 }
 
 // The message, if it passes the questions; a refusal changes nothing.

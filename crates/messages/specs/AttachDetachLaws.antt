@@ -10,12 +10,12 @@ use lib.ListN.{length, getD}
 use lib.Dec.{eqb}
 use Rattle.bits.specs.Bits.{Bits, bit, digits}
 use Rattle.bits.specs.BitsLaws.{bit-lt}
-use Rattle.bits.specs.Reader.{Reader, got, then, _>>=_, field, Local}
-use Rattle.bits.specs.ReaderLaws.{then-then, then-same, local·rules, follows·rules, Follows, field-back}
+use Rattle.bits.specs.Reader.{got, _>>=_, field, Local}
+use Rattle.bits.specs.ReaderLaws.{then-same, local·rules, follows·rules, Follows, field-back}
 use Rattle.elements.specs.Numbers.{flagWidth}
 use Rattle.elements.specs.NumbersLaws.{number-back, one-bit, same-held, same-self}
 use Rattle.elements.specs.ClassOfMs.{numbers}
-use Rattle.elements.specs.ClassOfMsLaws.{sum, split, numbers-word}
+use Rattle.elements.specs.ClassOfMsLaws.{sum, split, numbers-as, numbers-first}
 use Rattle.elements.specs.Generics.{noType3, noType4}
 use Rattle.elements.specs.Table.{Counted, counted, isListed}
 use Rattle.elements.specs.TableBack.{distinct, normalSlots}
@@ -35,12 +35,6 @@ use Rattle.messages.specs.declared.d_attach_detach_group_identity.DAttac
 use Rattle.messages.specs.declared.Record.{Record}
 
 -- ## the head's four bits are one field
-
--- the first of some numbers, and the others
-numbers-first : {B : Type 0} (w : ℕ) (ws : List ℕ) (f : List ℕ → Reader B) (bs : Bits)
-    → (numbers (w ∷ ws) >>= f) bs ≡ (field w >>= λ v. numbers ws >>= λ vs. f (v ∷ vs)) bs
-unfolding numbers
-numbers-first w ws f bs = then-then (field w bs) _ f ∙ then-same (field w bs) (λ v rest. then-then (numbers ws rest) _ f)
 
 abbrev flags : List ℕ
 flags = 1 ∷ 1 ∷ 1 ∷ 1 ∷ []
@@ -62,8 +56,7 @@ pub flags-word : (bs : Bits)
     ≡ (field 4 >>= λ v. got (attachDetachHeadOf (v / 8 % 2) (v / 4 % 2) (v / 2 % 2) (v % 2))) bs
 unfolding sum split
 flags-word bs =
-    sym (flags-numbers bs) ∙ ap (λ x. then x (λ vs. got (ofFlags vs))) (numbers-word flags bs)
-    ∙ then-then (field 4 bs) _ _ ∙ then-same (field 4 bs) (λ v rest. rw (div-one v))
+    sym (flags-numbers bs) ∙ numbers-as flags ofFlags bs ∙ then-same (field 4 bs) (λ v rest. rw (div-one v))
 
 -- ## local, and passed by the layout
 

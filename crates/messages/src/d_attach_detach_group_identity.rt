@@ -118,18 +118,13 @@ fn record_of(
 ) -> DAttachDetachGroupIdentity
     ensures { λ r. ⌜ r ≡ attachDetachFrom head list generics ⌝ }
 {
-    let groups = list.groups;
     DAttachDetachGroupIdentity {
         group_identity_report: head.group_identity_report,
         group_identity_acknowledgement_request: head.group_identity_acknowledgement_request,
         group_identity_attach_detach_mode: head.group_identity_attach_detach_mode,
         proprietary: type3_of(generics[0]),
         group_report_response: type3_of(generics[1]),
-        group_identity_downlink: OptionalDownlinks {
-            present: list.present,
-            count: list.count,
-            groups: groups,
-        },
+        group_identity_downlink: list.part_by_part(),
         group_identity_security_related_information: type4_of(generics[3]),
     }
 }

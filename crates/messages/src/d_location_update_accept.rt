@@ -32,7 +32,6 @@ use elements::typed_pdu_fields::Generic;
 use elements::typed_pdu_fields::LOCATION_ACCEPT;
 use elements::typed_pdu_fields::NO_GENERICS;
 use elements::typed_pdu_fields::NO_NUMBER;
-use elements::typed_pdu_fields::NO_ROW;
 use elements::typed_pdu_fields::OptionalType3;
 use elements::typed_pdu_fields::OptionalType4;
 use elements::typed_pdu_fields::OptionalU64;
@@ -255,7 +254,7 @@ fn record_of(
         scch_information_and_distribution_on_18th_frame: scch,
         new_registered_area: type4_of(generics[0]),
         security_downlink: type3_of(generics[1]),
-        group_identity_location_accept: location,
+        group_identity_location_accept: location.part_by_part(),
         default_group_attachment_lifetime: type3_of(generics[3]),
         authentication_downlink: type3_of(generics[4]),
         group_identity_security_related_information: type4_of(generics[5]),

@@ -5,8 +5,7 @@ pub mod u_location_update_demand;
 
 ghost use mathlib.Core.Path.{_≡_};
 ghost use Prim.Native.Nat.{_≤_};
-ghost use lib.ListN.{length};
-ghost use Rattle.messages.specs.Calls.{Message, demand, accept, attachDetach, known, goodWindow, goodCall, noReading, reading, behind};
+ghost use Rattle.messages.specs.Calls.{demand, accept, attachDetach, known, goodWindow, goodCall, noReading, reading, behind};
 ghost use Rattle.messages.specs.PlacedCalls.{accepted, called};
 use bits::bitbuffer::Cursor;
 use bits::pdu_parse_error::BAD_CALL;
@@ -22,6 +21,7 @@ use u_location_update_demand::ULocationUpdateDemand;
 use u_location_update_demand::no_demand;
 
 // The record of a call: the message's own is filled, the others stay absent and zero.
+#[repr(C)]
 pub struct Record {
     pub demand: ULocationUpdateDemand,
     pub accept: DLocationUpdateAccept,

@@ -285,7 +285,7 @@ fn record_of(
         la_information: la_information,
         ssi: ssi,
         address_extension: address_extension,
-        group_identity_location_demand: location,
+        group_identity_location_demand: location.part_by_part(),
         group_report_response: type3_of(generics[1]),
         authentication_uplink: type3_of(generics[2]),
         extended_capabilities: type3_of(generics[3]),

@@ -27,30 +27,42 @@ use tetra_pdus::mm::pdus::u_location_update_demand::ULocationUpdateDemand;
 use crate::flat::Flat;
 use crate::writing::{Writing, Writings};
 
-/// Our answer, with room for the record of any message.
-#[repr(C)]
-pub struct Answer {
-    /// 64 times the bits consumed, plus a refusal's number.
-    number: u64,
-    record: OurRecord,
-}
-
-/// Room for a record of any message, as our readings hand it back.
-type OurRecord = MaybeUninit<[u64; 500]>;
-
 /// A record of one message, in so many words, as our writings take it.
 #[repr(C)]
 #[derive(Clone, Copy)]
 pub struct Own<const WORDS: usize>(MaybeUninit<[u64; WORDS]>);
 
-/// Our reading call of one message.
+const DEMAND_WORDS: usize = 187;
+const ACCEPT_WORDS: usize = 195;
+const ATTACH_DETACH_WORDS: usize = 171;
+
+/// The records of a reading call: the message's own is filled.
+#[repr(C)]
+pub struct Records {
+    demand: Own<DEMAND_WORDS>,
+    accept: Own<ACCEPT_WORDS>,
+    attach_detach: Own<ATTACH_DETACH_WORDS>,
+}
+
+unsafe extern "C" {
+    fn measure_record(
+        octets: *const u8,
+        octets_len: usize,
+        first: usize,
+        end: usize,
+        message: u64,
+        wanted: u64,
+    ) -> Records;
+}
+
+/// Our reading call of one message: 64 times the bits consumed, plus a refusal's number. The record is left behind in the library.
 pub type Reading = unsafe extern "C" fn(
     octets: *const u8,
     octets_len: usize,
     first: usize,
     end: usize,
     wanted: u64,
-) -> Answer;
+) -> u64;
 
 macro_rules! reading {
     ($name:ident) => {
@@ -61,14 +73,14 @@ macro_rules! reading {
                 first: usize,
                 end: usize,
                 wanted: u64,
-            ) -> Answer;
+            ) -> u64;
         }
     };
 }
 
-reading!(measure_demand);
-reading!(measure_accept);
-reading!(measure_attach_detach);
+reading!(measure_read_demand);
+reading!(measure_read_accept);
+reading!(measure_read_attach_detach);
 
 macro_rules! writing {
     ($once:ident, $often:ident, $words:expr) => {
@@ -92,9 +104,9 @@ macro_rules! writing {
     };
 }
 
-writing!(measure_write_demand, measure_writes_demand, 187);
-writing!(measure_write_accept, measure_writes_accept, 195);
-writing!(measure_write_attach_detach, measure_writes_attach_detach, 171);
+writing!(measure_write_demand, measure_writes_demand, DEMAND_WORDS);
+writing!(measure_write_accept, measure_writes_accept, ACCEPT_WORDS);
+writing!(measure_write_attach_detach, measure_writes_attach_detach, ATTACH_DETACH_WORDS);
 
 const STRICT: u64 = 0;
 const ROUNDS: usize = 400;
@@ -104,11 +116,13 @@ pub const TIMES: usize = 500;
 pub trait Message: Flat + Sized {
     /// The message's type number.
     const NUMBER: u64;
-    const OURS: Reading;
+    const OUR_READING: Reading;
     /// The message's own record in our layout.
     type Own: Copy;
     const OUR_WRITING: Writing<Self::Own>;
     const OUR_WRITINGS: Writings<Self::Own>;
+
+    fn own(records: Records) -> Self::Own;
 
     fn read(buffer: &mut BitBuffer) -> Result<Self, PduParseErr>;
 
@@ -116,13 +130,25 @@ pub trait Message: Flat + Sized {
 }
 
 macro_rules! message {
-    ($record:ty, $number:expr, $ours:expr, $our_writing:expr, $our_writings:expr, $words:expr) => {
+    (
+        $record:ty,
+        $number:expr,
+        $our_reading:expr,
+        $our_writing:expr,
+        $our_writings:expr,
+        $own:ident,
+        $words:expr
+    ) => {
         impl Message for $record {
             const NUMBER: u64 = $number;
-            const OURS: Reading = $ours;
+            const OUR_READING: Reading = $our_reading;
             type Own = Own<$words>;
             const OUR_WRITING: Writing<Self::Own> = $our_writing;
             const OUR_WRITINGS: Writings<Self::Own> = $our_writings;
+
+            fn own(records: Records) -> Self::Own {
+                records.$own
+            }
 
             fn read(buffer: &mut BitBuffer) -> Result<Self, PduParseErr> {
                 Self::from_bitbuf(buffer)
@@ -138,26 +164,29 @@ macro_rules! message {
 message!(
     ULocationUpdateDemand,
     2,
-    measure_demand,
+    measure_read_demand,
     measure_write_demand,
     measure_writes_demand,
-    187
+    demand,
+    DEMAND_WORDS
 );
 message!(
     DLocationUpdateAccept,
     5,
-    measure_accept,
+    measure_read_accept,
     measure_write_accept,
     measure_writes_accept,
-    195
+    accept,
+    ACCEPT_WORDS
 );
 message!(
     DAttachDetachGroupIdentity,
     10,
-    measure_attach_detach,
+    measure_read_attach_detach,
     measure_write_attach_detach,
     measure_writes_attach_detach,
-    171
+    attach_detach,
+    ATTACH_DETACH_WORDS
 );
 
 /// What a table times.
@@ -237,30 +266,29 @@ impl Table for IntoRecord {
         buffer.set_raw_end(end);
         original_read::<M>(&mut buffer).expect("a message that the original reads");
         assert_eq!(buffer.get_pos(), end, "the original consumed another number of bits");
-        let answer = our_read::<M>(octets, end);
-        assert_eq!(answer.number, 64 * end as u64, "ours refused or consumed otherwise");
+        let number = our_read::<M>(octets, end);
+        assert_eq!(number, 64 * end as u64, "ours refused or consumed otherwise");
 
         fastest(|| original_read::<M>(&mut buffer), || our_read::<M>(octets, end))
     }
 }
 
-// Both give an answer with the record, which `timed` drops.
+// Both make the record: the original hands it to `timed`, which drops it.
 
 fn original_read<M: Message>(buffer: &mut BitBuffer) -> Result<M, PduParseErr> {
     buffer.set_raw_pos(0);
     M::read(buffer)
 }
 
-/// Our record of a message that was read.
-pub fn our_record<M: Message>(answer: &Answer) -> M::Own {
-    const { assert!(size_of::<M::Own>() <= size_of::<OurRecord>()) };
-    // SAFETY: the record of this message stands at the front of the room for any.
-    unsafe { answer.record.as_ptr().cast::<M::Own>().read() }
+fn our_read<M: Message>(octets: &[u8], end: usize) -> u64 {
+    // SAFETY: the pointer and the length are one slice's.
+    unsafe { (M::OUR_READING)(octets.as_ptr(), octets.len(), 0, end, STRICT) }
 }
 
-pub fn our_read<M: Message>(octets: &[u8], end: usize) -> Answer {
+/// Our record of a message.
+pub fn our_record<M: Message>(octets: &[u8], end: usize) -> M::Own {
     // SAFETY: the pointer and the length are one slice's.
-    unsafe { (M::OURS)(octets.as_ptr(), octets.len(), 0, end, STRICT) }
+    M::own(unsafe { measure_record(octets.as_ptr(), octets.len(), 0, end, M::NUMBER, STRICT) })
 }
 
 // The records.

@@ -7,9 +7,7 @@ use std::hint::black_box;
 
 use tetra_core::BitBuffer;
 
-use crate::messages::{
-    Message, TIMES, Table, fastest, fastest_rounds, our_read, our_record, round, timed,
-};
+use crate::messages::{Message, TIMES, Table, fastest, fastest_rounds, our_record, round, timed};
 
 /// Our writing call of one message's own record: the number of bits written, 0 with a refusal.
 pub type Writing<R> = unsafe extern "C" fn(
@@ -64,7 +62,7 @@ impl Table for FromRecord {
         let record = M::read(&mut BitBuffer::from_bytes(octets)).expect("a message");
         let mut outputs = Outputs::new(octets);
         original_write(&record, &mut outputs.original);
-        let own = our_record::<M>(&our_read::<M>(octets, end));
+        let own = our_record::<M>(octets, end);
         let bits = our_write::<M>(&own, &mut outputs.ours);
         assert_eq!(bits, end as u64, "ours refused or wrote otherwise");
         outputs.assert_equal(octets, end);

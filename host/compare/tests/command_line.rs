@@ -1,5 +1,5 @@
-//! What the program mm_read is held to: beside each call of `crates/mm_read/stdin` that it answers,
-//! `stdout` has the record that the original gives, or the number of its refusal.
+//! What the program mm_read is held to: beside each call of `crates/mm_read/stdin` that passes
+//! question 1, `stdout` has the record that the original gives, or the number of its refusal.
 
 use std::fmt::Display;
 use std::fs;

@@ -25,9 +25,14 @@ returns c =
       omega arith,
     )
 
+no-groups-requires : tie.Need-no-groups-requires
+no-groups-requires c κs = search needs
+
 returns-2 : tie.Need-returns-2
-returns-2 c = (no-list-asked downlinks (c .before .args .list) (c .if1 .left), omega arith)
+returns-2 c =
+    let few = c .no-groups .ensures .1 in
+    (c .no-groups .ensures .0 ∙ no-list-asked downlinks (c .before .before .args .list) (c .before .if1 .left), omega arith)
 
 pub ask-downlinks-spec : {M : Type 1} → statement M
 ask-downlinks-spec =
-    tie.close (tie.spec at-most-63-requires ask-groups-requires add-t6 returns returns-2)
+    tie.close (tie.spec at-most-63-requires ask-groups-requires add-t6 returns no-groups-requires returns-2)

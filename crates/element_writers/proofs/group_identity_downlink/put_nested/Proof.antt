@@ -1,15 +1,21 @@
 -- `element_writers::group_identity_downlink::put_nested` meets its contract. Assumes nothing.
-use native.Mathlib.Omega.{arith}
-use Rattle.bits.specs.Written.{bitsIn}
+use mathlib.Core.List.{_++_}
+use Rattle.bits.specs.Bits.{bit, digits}
+use Rattle.bits.specs.Written.{Holds, bitsIn}
 use Rattle.bits.specs.DigitsLaws.{no-digits, _▹_, behind}
 use Rattle.bits.specs.PutsLaws.{field}
+use Rattle.elements.specs.Numbers.{flagWidth}
 use Rattle.elements.specs.Lists.{downlinks}
 use Rattle.elements.specs.Locations.{groupIdentityDownlink}
 use Rattle.element_writers.specs.GroupParts.{downlinkParts}
-use Rattle.element_writers.specs.WrittenElements.{flag-fits, closing-fits, nested-there, nested-absent}
+use Rattle.element_writers.specs.WrittenElements.{flag-fits, closing-fits, nested-there, nested-absent, list-empty}
 use borrow.Author.Needs.{needs}
 use Rattle.element_writers.proofs.group_identity_downlink.put_nested.Statement.{statement}
 use Rattle.element_writers.proofs.group_identity_downlink.put_nested.Tie as tie
+
+-- the bits that stand before the list
+front-held : (v : tie.After-then) → let a = v .before .before .before .before .args in Holds (v .then .result) (bitsIn (a .front) ++ digits flagWidth (bit (a .list .present)))
+front-held v = behind (rw (v .before .bit-of .ensures) at (v .then .ensures))
 
 bit-of-requires : tie.Need-bit-of-requires
 bit-of-requires c κs = search needs
@@ -34,21 +40,35 @@ same-length c = search needs
 
 returns : tie.Need-returns
 returns c =
-    let a = c .before .before .before .before .before .before .before .before .before .before .before .before .before .before .before .before .before .args in
-    let e = rw (c .before .before .before .before .before .before .before .before .before .before .before .before .before .before .bit-of .ensures) at (c .before .before .before .before .before .before .before .before .before .before .before .before .before .then .ensures) in
-    nested-there downlinks downlinkParts groupIdentityDownlink (bitsIn (a .front)) (a .size) (a .list) (c .before .before .before .before .before .before .before .before .before .if1 .taken)
-    (field (behind e) (flag-fits (a .front) _ (omega arith)) (c .before .before .before .before .before .before .before .before .before .before .before .before .put .ensures))
+    let a = c .before .before .before .before .before .before .before .before .before .before .before .before .before .before .before .before .before .before .before .args in
+    nested-there downlinks downlinkParts groupIdentityDownlink (bitsIn (a .front)) (a .size) (a .list) (c .before .before .before .before .before .before .before .before .before .before .before .if1 .taken) (field (front-held (c .before .before .before .before .before .before .before .before .before .before .before .before .before .before .before)) (flag-fits (a .front) _ (c .before .before .before .before .before .before .before .before .before .before .before .before .before .before .before .before .before .before .before .pre)) (c .before .before .before .before .before .before .before .before .before .before .before .before .before .before .put .ensures))
     (c .before .before .before .before .before .before .before .put-list .ensures) (field (no-digits ▹ c .before .before .before .then2 .ensures) closing-fits (c .before .before .put2 .ensures))
+
+put-list-front-requires : tie.Need-put-list-front-requires
+put-list-front-requires c κs = search needs
+
+then-requires-3 : tie.Need-then-requires-3
+then-requires-3 c κs = search needs
+
+put-requires-3 : tie.Need-put-requires-3
+put-requires-3 c κs = search needs
 
 same-length-2 : tie.Need-same-length-2
 same-length-2 c = search needs
 
 returns-2 : tie.Need-returns-2
 returns-2 c =
+    let a = c .before .before .before .before .before .before .before .before .before .before .before .before .before .before .before .before .before .before .before .args in
+    nested-there downlinks downlinkParts groupIdentityDownlink (bitsIn (a .front)) (a .size) (a .list) (c .before .before .before .before .before .before .before .before .before .before .before .if1 .taken) (field (front-held (c .before .before .before .before .before .before .before .before .before .before .before .before .before .before .before)) (flag-fits (a .front) _ (c .before .before .before .before .before .before .before .before .before .before .before .before .before .before .before .before .before .before .before .pre)) (c .before .before .before .before .before .before .before .before .before .before .before .before .before .before .put .ensures))
+    (list-empty downlinks downlinkParts groupIdentityDownlink (a .size) (a .list) (c .before .before .before .before .before .before .before .before .before .if2 .left) (c .before .before .before .before .before .before .before .put-list-front .ensures)) (field (no-digits ▹ c .before .before .before .then3 .ensures) closing-fits (c .before .before .put3 .ensures))
+
+same-length-3 : tie.Need-same-length-3
+same-length-3 c = search needs
+
+returns-3 : tie.Need-returns-3
+returns-3 c =
     let a = c .before .before .before .before .before .before .before .before .args in
-    let e = rw (c .before .before .before .before .before .bit-of .ensures) at (c .before .before .before .before .then .ensures) in
-    nested-absent downlinks downlinkParts groupIdentityDownlink (bitsIn (a .front)) (a .size) (a .list) (c .if1 .left)
-    (field (behind e) (flag-fits (a .front) _ (omega arith)) (c .before .before .before .put .ensures))
+    nested-absent downlinks downlinkParts groupIdentityDownlink (bitsIn (a .front)) (a .size) (a .list) (c .if1 .left) (field (front-held (c .before .before .before .before)) (flag-fits (a .front) _ (c .before .before .before .before .before .before .before .before .pre)) (c .before .before .before .put .ensures))
 
 pub put-nested-spec : {M : Type 1} → statement M
 put-nested-spec =
@@ -62,5 +82,10 @@ put-nested-spec =
     put-requires-2
     same-length
     returns
+    put-list-front-requires
+    then-requires-3
+    put-requires-3
     same-length-2
-    returns-2)
+    returns-2
+    same-length-3
+    returns-3)

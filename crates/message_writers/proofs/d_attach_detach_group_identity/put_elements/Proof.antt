@@ -1,16 +1,13 @@
 -- `message_writers::d_attach_detach_group_identity::put_elements` meets its contract. Assumes nothing.
 use Rattle.bits.specs.DigitsLaws.{no-digits, _▹_}
 use Rattle.bits.specs.PutsLaws.{field, _⨾_}
-use Rattle.element_writers.specs.WrittenElements.{type3-written, closing-fits}
+use Rattle.element_writers.specs.WrittenElements.{closing-fits}
 use borrow.Author.Needs.{needs}
 use Rattle.message_writers.proofs.d_attach_detach_group_identity.put_elements.Statement.{statement}
 use Rattle.message_writers.proofs.d_attach_detach_group_identity.put_elements.Tie as tie
 
-write-type3-generic-requires : tie.Need-write-type3-generic-requires
-write-type3-generic-requires c κs = search needs
-
-write-type3-generic-requires-2 : tie.Need-write-type3-generic-requires-2
-write-type3-generic-requires-2 c κs = search needs
+put-generics-requires : tie.Need-put-generics-requires
+put-generics-requires c κs = search needs
 
 write-downlinks-requires : tie.Need-write-downlinks-requires
 write-downlinks-requires c κs = search needs
@@ -26,17 +23,14 @@ same-length c = search needs
 
 returns : tie.Need-returns
 returns c =
-    let a = c .before .before .before .before .before .before .before .before .before .before .before .before .before .before .before .before .before .before .args in
-    let f = c .before .before .before .before .before .before .before .before .before .before .before .before .before .before .before .before .before .before .pre in
-    type3-written 15 (a .p) (f .first) (c .before .before .before .before .before .before .before .before .before .before .before .before .before .before .before .write-type3-generic .ensures)
-    ⨾ (type3-written 4 (a .g) (f .second) (c .before .before .before .before .before .before .before .before .before .before .before .write-type3-generic2 .ensures) ⨾ (c .before .before .before .before .before .before .before .write-downlinks .ensures ⨾ field (no-digits ▹ c .before .before .before .then .ensures) closing-fits (c .before .before .put .ensures)))
+    c .before .before .before .before .before .before .before .before .before .before .before .put-generics .ensures
+    ⨾ (c .before .before .before .before .before .before .before .write-downlinks .ensures ⨾ field (no-digits ▹ c .before .before .before .then .ensures) closing-fits (c .before .before .put .ensures))
 
 pub put-elements-spec : {M : Type 1} → statement M
 put-elements-spec =
     tie.close
     (tie.spec
-    write-type3-generic-requires
-    write-type3-generic-requires-2
+    put-generics-requires
     write-downlinks-requires
     then-requires
     put-requires

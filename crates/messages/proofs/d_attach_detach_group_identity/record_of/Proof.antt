@@ -15,6 +15,9 @@ array-copy-out-type3-of-2 c = search needs
 type3-of-requires-2 : tie.Need-type3-of-requires-2
 type3-of-requires-2 c κs = search needs
 
+part-by-part-requires : tie.Need-part-by-part-requires
+part-by-part-requires c κs = search needs
+
 array-copy-out-type4-of : tie.Need-array-copy-out-type4-of
 array-copy-out-type4-of c = search needs
 
@@ -23,7 +26,8 @@ type4-of-requires c κs = search needs
 
 returns : tie.Need-returns
 returns c =
-    rw (c .before .before .before .before .type3-of .ensures, c .before .before .type3-of2 .ensures, c .type4-of .ensures)
+    let l = c .before .before in
+    rw (l .before .before .before .type3-of .ensures, l .before .type3-of2 .ensures, l .part-by-part .ensures, c .type4-of .ensures)
 
 pub record-of-spec : {M : Type 1} → statement M
 record-of-spec =
@@ -33,6 +37,7 @@ record-of-spec =
     type3-of-requires
     array-copy-out-type3-of-2
     type3-of-requires-2
+    part-by-part-requires
     array-copy-out-type4-of
     type4-of-requires
     returns)

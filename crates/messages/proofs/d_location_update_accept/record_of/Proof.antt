@@ -15,6 +15,9 @@ array-copy-out-type3-of c = search needs
 type3-of-requires : tie.Need-type3-of-requires
 type3-of-requires c κs = search needs
 
+part-by-part-requires : tie.Need-part-by-part-requires
+part-by-part-requires c κs = search needs
+
 array-copy-out-type3-of-2 : tie.Need-array-copy-out-type3-of-2
 array-copy-out-type3-of-2 c = search needs
 
@@ -50,8 +53,9 @@ returns c =
     let g6 = c .before .before in
     let g3 = g6 .before .before .before .before .before .before in
     rw (
-      g3 .before .before .before .before .type4-of .ensures,
-      g3 .before .before .type3-of .ensures,
+      g3 .before .before .before .before .before .type4-of .ensures,
+      g3 .before .before .before .type3-of .ensures,
+      g3 .before .before .part-by-part .ensures,
       g3 .type3-of2 .ensures,
       g6 .before .before .before .before .type3-of3 .ensures,
       g6 .before .before .type4-of2 .ensures,
@@ -67,6 +71,7 @@ record-of-spec =
     type4-of-requires
     array-copy-out-type3-of
     type3-of-requires
+    part-by-part-requires
     array-copy-out-type3-of-2
     type3-of-requires-2
     array-copy-out-type3-of-3

@@ -3,6 +3,9 @@ use borrow.Author.Needs.{needs}
 use Rattle.messages.proofs.u_location_update_demand.record_of.Statement.{statement}
 use Rattle.messages.proofs.u_location_update_demand.record_of.Tie as tie
 
+part-by-part-requires : tie.Need-part-by-part-requires
+part-by-part-requires c κs = search needs
+
 array-copy-out-type3-of : tie.Need-array-copy-out-type3-of
 array-copy-out-type3-of c = search needs
 
@@ -30,6 +33,7 @@ type3-of-requires-4 c κs = search needs
 returns : tie.Need-returns
 returns c =
     rw (
+      c .before .before .before .before .before .before .before .before .part-by-part .ensures,
       c .before .before .before .before .before .before .type3-of .ensures,
       c .before .before .before .before .type3-of2 .ensures,
       c .before .before .type3-of3 .ensures,
@@ -40,6 +44,7 @@ pub record-of-spec : {M : Type 1} → statement M
 record-of-spec =
     tie.close
     (tie.spec
+    part-by-part-requires
     array-copy-out-type3-of
     type3-of-requires
     array-copy-out-type3-of-2

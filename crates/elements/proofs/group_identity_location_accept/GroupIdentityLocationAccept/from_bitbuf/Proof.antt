@@ -149,10 +149,14 @@ sub-if1 : tie.Need-sub-if1
 sub-if1 c =
     structure-on downlinks-sound groupIdentityDownlink _ (local-tail (accept-laws .body-local)) (list-behind (c .before .before .before .before .before .before .before .before .before .before .before .before .before)) (c .before .before .before .before .before .before .before .before .before .before .before .before .before .before .before .before .before .before .before .before .before .args .len) (closed (c .before))
 
+part-by-part-requires : tie.Need-part-by-part-requires
+part-by-part-requires c κs = search needs
+
 returns-6 : tie.Need-returns-6
 unfolding locationAccept
 returns-6 c =
-    answer locationAcceptAnswer (structure-whole downlinks-sound groupIdentityDownlink _ (local-tail (accept-laws .body-local)) (list-behind (c .before .before .before .before .before .before .before .before .before .before .before .before .before .before .before)) (c .before .before .before .before .before .before .before .before .before .before .before .before .before .before .before .before .before .before .before .before .before .before .before .args .len) (closed (c .before .before .before)) (c .before .if1 .taken))
+    rw (c .part-by-part .ensures)
+    (answer locationAcceptAnswer (structure-whole downlinks-sound groupIdentityDownlink _ (local-tail (accept-laws .body-local)) (list-behind (c .before .before .before .before .before .before .before .before .before .before .before .before .before .before .before .before)) (c .before .before .before .before .before .before .before .before .before .before .before .before .before .before .before .before .before .before .before .before .before .before .before .before .args .len) (closed (c .before .before .before .before)) (c .before .before .if1 .taken)))
 
 no-location-accept-requires-6 : tie.Need-no-location-accept-requires-6
 no-location-accept-requires-6 c κs = search needs
@@ -195,6 +199,7 @@ from-bitbuf-spec =
     no-location-accept-requires-5
     returns-5
     sub-if1
+    part-by-part-requires
     returns-6
     no-location-accept-requires-6
     returns-7)

@@ -181,10 +181,14 @@ sub-if2 : tie.Need-sub-if2
 sub-if2 c =
     structure-on uplinks-sound groupIdentityUplink _ (local-tail (demand-laws .body-local)) (list-behind (c .before .before .before .before .before .before .before .before .before .before .before .before .before)) (c .before .before .before .before .before .before .before .before .before .before .before .before .before .before .before .before .before .before .before .before .before .before .args .len) (closed (c .before))
 
+part-by-part-requires : tie.Need-part-by-part-requires
+part-by-part-requires c κs = search needs
+
 returns-7 : tie.Need-returns-7
 unfolding locationDemand
 returns-7 c =
-    answer locationDemandAnswer (structure-whole uplinks-sound groupIdentityUplink _ (local-tail (demand-laws .body-local)) (list-behind (c .before .before .before .before .before .before .before .before .before .before .before .before .before .before .before)) (c .before .before .before .before .before .before .before .before .before .before .before .before .before .before .before .before .before .before .before .before .before .before .before .before .args .len) (closed (c .before .before .before)) (c .before .if2 .taken))
+    rw (c .part-by-part .ensures)
+    (answer locationDemandAnswer (structure-whole uplinks-sound groupIdentityUplink _ (local-tail (demand-laws .body-local)) (list-behind (c .before .before .before .before .before .before .before .before .before .before .before .before .before .before .before .before)) (c .before .before .before .before .before .before .before .before .before .before .before .before .before .before .before .before .before .before .before .before .before .before .before .before .before .args .len) (closed (c .before .before .before .before)) (c .before .before .if2 .taken)))
 
 no-location-demand-requires-7 : tie.Need-no-location-demand-requires-7
 no-location-demand-requires-7 c κs = search needs
@@ -230,6 +234,7 @@ from-bitbuf-spec =
     no-location-demand-requires-6
     returns-6
     sub-if2
+    part-by-part-requires
     returns-7
     no-location-demand-requires-7
     returns-8)
