@@ -14,7 +14,7 @@ use Rattle.elements.specs.Numbers.{held, isPresent, optionBits, optionAll, inWi
 use Rattle.elements.specs.Groups.{Form, Address, addressWidth, addressTypeWidth, addressBits, formOf, typeOf, listedForm, uplinkForms, downlinkForms, kindOf, detachmentWidth, lifetimeWidth, classOfUsageWidth, attachmentBits, attachmentFits, groupBits}
 use Rattle.elements.specs.Generics.{entriesWidth}
 use Rattle.elements.specs.EachLaws.{each-more, take-most}
-use Rattle.elements.specs.Lists.{Groups, each, all, listBits, listHeld, listFits, listOne, listListed}
+use Rattle.elements.specs.Lists.{Groups, downlinks, listAs, each, all, listBits, listHeld, listFits, listOne, listListed}
 use Rattle.elements.specs.declared.group_identity_attachment.GroupIdentityAttachment.{GroupIdentityAttachment}
 use Rattle.elements.specs.declared.group_address.GroupAddress.{GroupAddress}
 use Rattle.element_writers.specs.GroupParts.{same-eight, attachment-length}
@@ -49,9 +49,9 @@ module _ {G L : Type 0} (k : Groups G L) where
     size = length (optionBits (listBits k) (listHeld k l));
   }
 
--- those of a list that is absent, or has no entries
-abbrev pub noGroups : Bool → GroupsAsked
-noGroups present = record { fits = true; one = true; listed = true; size = cond present 6 0 }
+-- those of a list that is absent, or present without entries; they are the same for each kind of group
+abbrev pub askedEmpty : Bool → GroupsAsked
+askedEmpty p = askedList downlinks (listAs downlinks p [])
 
 -- ## laws
 
@@ -104,6 +104,11 @@ module _ {G L : Type 0} (k : Groups G L) where
   all-more : (test : G → Bool) (gs : List G) (i : ℕ) (d : G) → i < length gs → all test (take (i + 1) gs) ≡ (all test (take i gs) && test (getD gs i d))
   all-more test gs i d h = let z : i + 1 ≡ suc i = omega arith in rw z (all-next test gs i d h)
 
+  -- of no groups, and of one more
+  pub none-asked : askedEmpty false ≡ askedEach k []
+  unfolding listFits listOne listListed all each
+  none-asked = refl
+
   pub asked-more : (gs : List G) (i : ℕ) (d : G) {x y : GroupsAsked} → i < length gs → x ≡ askedEach k (take i gs) → y ≡ askedOf k (getD gs i d)
       → _≡_ {A = GroupsAsked} (record { fits = x .fits && y .fits; one = x .one && y .one; listed = x .listed && y .listed; size = x .size + y .size })
       (askedEach k (take (i + 1) gs))
@@ -126,18 +131,21 @@ module _ {G L : Type 0} (k : Groups G L) where
       rw (p, e, m, take-most (k .count l) 63 (k .groups l) h)
       (rw (length-append (digits entriesWidth (k .count l)) (each (k .bits) (take (k .count l) (k .groups l))), length-digits entriesWidth (k .count l)))
 
-  pub no-list-asked : (l : L) → k .present l ≡ false → noGroups false ≡ askedList k l
+  pub no-list-asked : (l : L) → k .present l ≡ false → askedEmpty false ≡ askedList k l
   unfolding listFits listOne listListed
   no-list-asked l p = rw p
 
   -- absent, or without entries
-  pub no-groups-asked : (l : L) → (k .present l && ltb 0 (k .count l)) ≡ false → noGroups (k .present l) ≡ askedList k l
+  pub no-groups-asked : (l : L) → (k .present l && ltb 0 (k .count l)) ≡ false → askedEmpty (k .present l) ≡ askedList k l
   unfolding listFits listOne listListed listBits all each
   no-groups-asked l h = go (k .present l) refl h
     where
-      empty : k .present l ≡ true → k .count l ≡ 0 → noGroups true ≡ askedList k l
-      empty p z = rw (p, z) (rw (length-append (digits entriesWidth 0) [], length-digits entriesWidth 0) refl)
-
-      go : (p : Bool) → k .present l ≡ p → (p && ltb 0 (k .count l)) ≡ false → noGroups p ≡ askedList k l
-      go true p e = empty p (omega (arith, ltb-false 0 (k .count l) e))
+      go : (p : Bool) → k .present l ≡ p → (p && ltb 0 (k .count l)) ≡ false → askedEmpty p ≡ askedList k l
+      go true p e = let z : k .count l ≡ 0 = omega (arith, ltb-false 0 (k .count l) e) in rw (p, z)
       go false p e = no-list-asked l p
+
+-- a list without entries passes them; it has the bits of its count, or none
+pub empty-asked : (p : Bool) → _≡_ {A = GroupsAsked} (record { fits = true; one = true; listed = true; size = cond p 6 0 }) (askedEmpty p)
+unfolding listFits listOne listListed all each
+empty-asked true = list-asked downlinks (listAs downlinks true []) 0 refl refl refl refl
+empty-asked false = refl

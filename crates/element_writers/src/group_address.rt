@@ -5,7 +5,7 @@ ghost use lib.Dec.{ltb};
 ghost use Rattle.elements.specs.Numbers.{held, optionAll};
 ghost use Rattle.elements.specs.Groups.{addressFits, typeOf, uplinkForms, downlinkForms};
 ghost use Rattle.element_writers.specs.LocationAsked.{locationOf};
-ghost use Rattle.element_writers.specs.GroupsAsked.{addressHeld, addressSize, noGroups};
+ghost use Rattle.element_writers.specs.GroupsAsked.{addressHeld, addressSize, askedEmpty};
 use crate::typed_pdu_fields::nested_size;
 use crate::typed_pdu_fields::width_if;
 use elements::group_address::GroupAddress;
@@ -66,7 +66,7 @@ pub struct GroupsAsked {
 
 // The same of a list that is absent, or has no entries.
 pub(crate) fn no_groups(present: bool) -> GroupsAsked
-    ensures { λ r. ⌜ (r ≡ noGroups present) × (r .size ≤ 6) ⌝ }
+    ensures { λ r. ⌜ (r ≡ askedEmpty present) × (r .size ≤ 6) ⌝ }
 {
     GroupsAsked {
         fits: true,

@@ -126,12 +126,7 @@ fn ask_groups(groups: [GroupIdentityDownlink; 63], count: usize) -> GroupsAsked
     requires { ⌜ count ≤ 63 ⌝ }
     ensures { λ r. ⌜ (r ≡ askedEach downlinks (take count groups)) × (r .size ≤ 82 * 63) ⌝ }
 {
-    let mut asked = GroupsAsked {
-        fits: true,
-        one: true,
-        listed: true,
-        size: 0,
-    };
+    let mut asked = no_groups(false);
     let mut i: usize = 0;
     while i < count {
         let g = groups[i];

@@ -32,4 +32,5 @@ pub mod PlacedGroups
 pub mod PlacedLists
 pub mod PlacedLocations
 pub mod Parts
+pub mod EmptyParts
 pub mod EachLaws

@@ -1,7 +1,7 @@
 -- Laws of what may be absent: it is read back, and what is present settles what is held.
 use Prim.Native.Nat.{ℕ, _^_}
 use mathlib.Core.Path.{_≡_, refl, sym, ap, _∙_}
-use mathlib.Core.Bool.{Bool, true, false, _&&_, false≢true}
+use mathlib.Core.Bool.{Bool, true, false, _&&_, _||_, false≢true}
 use mathlib.Core.Option.{Option, none, some}
 use mathlib.Core.List.{_++_, append-assoc}
 use lib.Dec.{eqb}
@@ -22,6 +22,10 @@ never e = absurd (false≢true e)
 pub both : (a b : Bool) → (a && b) ≡ true → (a ≡ true) × (b ≡ true)
 both true b e = (refl, e)
 both false b e = never e
+
+pub neither : (a b : Bool) → (a || b) ≡ false → (a ≡ false) × (b ≡ false)
+neither true b e = never (sym e)
+neither false b e = (refl, e)
 
 -- ## reading back
 

@@ -42,9 +42,9 @@ pub record Parts (A X : Type 0) : Type 0 where
   pub out : Option Element → A
   -- what is made of the slots' values; and the same of what the code holds
   pub made : List (Option Element) → X
-  pub held : A → List Generic → X
+  pub held : A → List Generic → List Generic → X
   pub same : (vs ws : List (Option Element)) (v : Option Element) (gs hs : List Generic) → Each before vs gs → Each behind ws hs
-      → made (vs ++ (v ∷ ws)) ≡ held (out v) (sets (sets noGenerics 0 gs) from hs)
+      → made (vs ++ (v ∷ ws)) ≡ held (out v) (sets noGenerics 0 gs) (sets noGenerics from hs)
 
 module _ (table : List Slot) (b : Bool) where
   abbrev scanned : List Slot → Reader (Counted (List (Option Element)))
@@ -84,8 +84,8 @@ module _ (table : List Slot) (b : Bool) where
   generics-tail (r ∷ rs) =
       bind-tail (skipping table b) _ (skipping-tail table b) (λ n. bind-tail (genericSlot r) _ (generic-slot-tail r) (λ g. bind-tail (generics table rs b) _ (generics-tail rs) (λ x. search local·rules)))
 
-  module _ (rs : List Row) (last : Bool) (before : List Generic) (from : ℕ) where
-    pub part-tail : Tail (part table rs last b before from)
+  module _ (rs : List Row) (last : Bool) (from : ℕ) where
+    pub part-tail : Tail (part table rs last b from)
     unfolding part
     part-tail = bind-tail (generics table rs b) _ (generics-tail rs) (λ x. bind-tail (behindPart last table b) _ (behind-tail last) (λ n. search local·rules))
 
@@ -132,46 +132,46 @@ module _ (table : List Slot) (b : Bool) where
   pub behind-most : (last : Bool) {os : List ℕ} {c k : Cursor} {n : ℕ} → Gives (behindPart last table b) os c (placed n k) → n + c .at ≤ k .at
   behind-most last = at-most (behind-bounded last) (behind-tail last)
 
-  module _ (rs : List Row) (last : Bool) (before : List Generic) (from : ℕ) where
-    pub part-most : {os : List ℕ} {c k : Cursor} {s : Slots} → Gives (part table rs last b before from) os c (placed s k) → s .skipped + c .at ≤ k .at
+  module _ (rs : List Row) (last : Bool) (from : ℕ) where
+    pub part-most : {os : List ℕ} {c k : Cursor} {s : Slots} → Gives (part table rs last b from) os c (placed s k) → s .skipped + c .at ≤ k .at
     unfolding part
     part-most = at-most {skipped = λ (s : Slots). s .skipped} (record {
       most = λ bs s rest e. split-then (generics table rs b bs) _ e (λ x m₁ p₁ q₁. split-then (behindPart last table b m₁) _ q₁ (λ n m₂ p₂ q₂.
           let all : x .skipped + n ≡ s .skipped = cc in
           let left : m₂ ≡ rest = cc in
           omega (arith, generics-bounded rs .most bs x m₁ p₁, behind-bounded last .most m₁ n m₂ p₂, ap length left)));
-    }) (part-tail rs last before from)
+    }) (part-tail rs last from)
 
   -- a part, by its slots and by what is behind them
-  module _ (rs : List Row) (last : Bool) (before : List Generic) (from : ℕ) {os : List ℕ} {c : Cursor} where
-    pub no-slots : {n : ℕ} → Gives (filled table b before from rs) os c (halted n) → Gives (part table rs last b before from) os c (halted n)
+  module _ (rs : List Row) (last : Bool) (from : ℕ) {os : List ℕ} {c : Cursor} where
+    pub no-slots : {n : ℕ} → Gives (filled table b noGenerics from rs) os c (halted n) → Gives (part table rs last b from) os c (halted n)
     unfolding part
-    no-slots e = stop _ (made-not (slotsIn before from) (generics table rs b) e)
+    no-slots e = stop _ (made-not (slotsIn noGenerics from) (generics table rs b) e)
 
-    module _ {s : Slots} {k : Cursor} (e : Gives (filled table b before from rs) os c (placed s k)) where
-      behind-slots : {y : Placed Slots} → ((x : Counted (List Generic)) → slotsIn before from x ≡ s
-          → Gives (behindPart last table b >>= λ n. got (slotsIn before from (counted (x .skipped + n) (x .value)))) os k y) → Gives (part table rs last b before from) os c y
+    module _ {s : Slots} {k : Cursor} (e : Gives (filled table b noGenerics from rs) os c (placed s k)) where
+      behind-slots : {y : Placed Slots} → ((x : Counted (List Generic)) → slotsIn noGenerics from x ≡ s
+          → Gives (behindPart last table b >>= λ n. got (slotsIn noGenerics from (counted (x .skipped + n) (x .value)))) os k y) → Gives (part table rs last b from) os c y
       unfolding part
-      behind-slots h = made-of (slotsIn before from) (generics table rs b) e (generics-tail rs) (λ x p g. step _ g (generics-tail rs) (h x p))
+      behind-slots h = made-of (slotsIn noGenerics from) (generics table rs b) e (generics-tail rs) (λ x p g. step _ g (generics-tail rs) (h x p))
 
-      pub no-behind : {n : ℕ} → Gives (behindPart last table b) os k (halted n) → Gives (part table rs last b before from) os c (halted n)
+      pub no-behind : {n : ℕ} → Gives (behindPart last table b) os k (halted n) → Gives (part table rs last b from) os c (halted n)
       no-behind g = behind-slots (λ x p. stop _ g)
 
       pub part-read : {n : ℕ} {j : Cursor} → Gives (behindPart last table b) os k (placed n j)
-          → Gives (part table rs last b before from) os c (placed (record { skipped = s .skipped + n; generics = s .generics }) j)
+          → Gives (part table rs last b from) os c (placed (record { skipped = s .skipped + n; generics = s .generics }) j)
       part-read {n} g = behind-slots (λ x p. step _ g (behind-tail last) (ends (ap (λ (s : Slots). record { skipped = s .skipped + n; generics = s .generics }) p)))
 
-  -- a part without slots: the array stays as it was
-  module _ (last : Bool) (before : List Generic) (from : ℕ) {os : List ℕ} {c : Cursor} {n : ℕ} where
+  -- a part without slots: nothing stands in the array
+  module _ (last : Bool) (from : ℕ) {os : List ℕ} {c : Cursor} {n : ℕ} where
     pub empty-part : {k : Cursor} → Gives (behindPart last table b) os c (placed n k)
-        → Gives (part table [] last b before from) os c (placed (record { skipped = n; generics = before }) k)
+        → Gives (part table [] last b from) os c (placed (record { skipped = n; generics = noGenerics }) k)
     unfolding part generics
     empty-part {k} e =
-        let g : Gives (part table [] last b before from) os c (placed (record { skipped = 0 + n; generics = before }) k) = step _ e (behind-tail last) done in
+        let g : Gives (part table [] last b from) os c (placed (record { skipped = 0 + n; generics = noGenerics }) k) = step _ e (behind-tail last) done in
         let z : 0 + n ≡ n = omega arith in
         rw z at g
 
-    pub empty-part-refused : Gives (behindPart last table b) os c (halted n) → Gives (part table [] last b before from) os c (halted n)
+    pub empty-part-refused : Gives (behindPart last table b) os c (halted n) → Gives (part table [] last b from) os c (halted n)
     unfolding part generics
     empty-part-refused e = stop _ e
 
@@ -186,13 +186,13 @@ module _ (table : List Slot) (b : Bool) where
 
     -- what is made of the two parts and the slot between them
     abbrev joined : Slots → A → Slots → Reader (Counted X)
-    joined f a g = got (counted (f .skipped + g .skipped) (p .held a (g .generics)))
+    joined f a g = got (counted (f .skipped + g .skipped) (p .held a (f .generics) (g .generics)))
 
     abbrev behind-front : Slots → Reader (Counted X)
-    behind-front f = between >>= λ a. part table (p .behind) true b (f .generics) (p .from) >>= joined f a
+    behind-front f = between >>= λ a. part table (p .behind) true b (p .from) >>= joined f a
 
     abbrev inParts : Reader (Counted X)
-    inParts = part table (p .before) false b noGenerics 0 >>= behind-front
+    inParts = part table (p .before) false b 0 >>= behind-front
 
     -- the same of the slots' values, where n elements were skipped and the values vs read before
     abbrev onto : ℕ → List (Option Element) → Counted (List (Option Element)) → Reader (Counted X)
@@ -202,8 +202,8 @@ module _ (table : List Slot) (b : Bool) where
     abbrev front-part : Counted (List Generic) → ℕ → Slots
     front-part x n = slotsIn noGenerics 0 (counted (x .skipped + n) (x .value))
 
-    abbrev back-part : Counted (List Generic) → Counted (List Generic) → ℕ → Slots
-    back-part x y m = slotsIn (sets noGenerics 0 (x .value)) (p .from) (counted (y .skipped + m) (y .value))
+    abbrev back-part : Counted (List Generic) → ℕ → Slots
+    back-part y m = slotsIn noGenerics (p .from) (counted (y .skipped + m) (y .value))
 
     -- THE PARTS read one after the other are the table read whole
     in-parts : (bs : Bits) → whole bs ≡ inParts bs
@@ -214,7 +214,7 @@ module _ (table : List Slot) (b : Bool) where
         then-both (slot identifierOf content (p .own) mid) _ _ _ _ (λ v rest.
         then-then (scanned (map genericRow (p .behind)) rest) _ (onto (x .skipped) vs)
         ∙ (rw (append-nil (map genericRow (p .behind))) at (front (p .behind) [] (λ z. onto (x .skipped) vs (counted (n + z .skipped) (v ∷ z .value)))
-        (λ y. (tableEnd table b >>= λ k. got (back-part x y k)) >>= joined (front-part x n) (p .out v)) (λ y ws m f.
+        (λ y. (tableEnd table b >>= λ k. got (back-part y k)) >>= joined (front-part x n) (p .out v)) (λ y ws m f.
         then-both (skipping table b m) _ _ _ _ (λ k mid.
         then-both (closing mid) _ _ _ _ (λ u rest.
         let z : x .skipped + (n + (y .skipped + k)) ≡ x .skipped + n + (y .skipped + k) = omega arith in
@@ -230,32 +230,32 @@ module _ (table : List Slot) (b : Bool) where
       parted : {x : Placed (Counted X)} → Gives inParts os c x → Gives whole os c x
       parted g = alike inParts (in-parts (window os c)) g
 
-      pub no-front : {n : ℕ} → Gives (part table (p .before) false b noGenerics 0) os c (halted n) → Gives whole os c (halted n)
+      pub no-front : {n : ℕ} → Gives (part table (p .before) false b 0) os c (halted n) → Gives whole os c (halted n)
       no-front e = parted (stop _ e)
 
-      module _ {f : Slots} {c₁ : Cursor} (e₁ : Gives (part table (p .before) false b noGenerics 0) os c (placed f c₁)) where
+      module _ {f : Slots} {c₁ : Cursor} (e₁ : Gives (part table (p .before) false b 0) os c (placed f c₁)) where
         from-slot : {x : Placed (Counted X)} → Gives (behind-front f) os c₁ x → Gives whole os c x
-        from-slot h = parted (step _ e₁ (part-tail (p .before) false noGenerics 0) h)
+        from-slot h = parted (step _ e₁ (part-tail (p .before) false 0) h)
 
         pub no-slot : {n : ℕ} → Gives between os c₁ (halted n) → Gives whole os c (halted n)
         no-slot e = from-slot (stop _ e)
 
         module _ {a : A} {c₂ : Cursor} (e₂ : Gives between os c₁ (placed a c₂)) where
-          from-back : {x : Placed (Counted X)} → Gives (part table (p .behind) true b (f .generics) (p .from) >>= joined f a) os c₂ x → Gives whole os c x
+          from-back : {x : Placed (Counted X)} → Gives (part table (p .behind) true b (p .from) >>= joined f a) os c₂ x → Gives whole os c x
           from-back h = from-slot (step _ e₂ (held-tail (p .own) (p .out)) h)
 
-          pub no-back : {n : ℕ} → Gives (part table (p .behind) true b (f .generics) (p .from)) os c₂ (halted n) → Gives whole os c (halted n)
+          pub no-back : {n : ℕ} → Gives (part table (p .behind) true b (p .from)) os c₂ (halted n) → Gives whole os c (halted n)
           no-back e = from-back (stop _ e)
 
-          module _ {g : Slots} {c₃ : Cursor} (e₃ : Gives (part table (p .behind) true b (f .generics) (p .from)) os c₂ (placed g c₃)) where
+          module _ {g : Slots} {c₃ : Cursor} (e₃ : Gives (part table (p .behind) true b (p .from)) os c₂ (placed g c₃)) where
             -- THE TABLE IS READ; each element skipped is a bit at least
             pub record AllRead : Type 0 where
-              pub is : Gives whole os c (placed (counted (f .skipped + g .skipped) (p .held a (g .generics))) c₃)
+              pub is : Gives whole os c (placed (counted (f .skipped + g .skipped) (p .held a (f .generics) (g .generics))) c₃)
               pub most : f .skipped + g .skipped + c .at ≤ c₃ .at
 
             pub all-read : AllRead
             all-read = record {
-              is = from-back (step _ e₃ (part-tail (p .behind) true (f .generics) (p .from)) done);
+              is = from-back (step _ e₃ (part-tail (p .behind) true (p .from)) done);
               most =
-                  omega (arith, part-most (p .before) false noGenerics 0 e₁, told (held-tail (p .own) (p .out)) e₂ .on, part-most (p .behind) true (f .generics) (p .from) e₃);
+                  omega (arith, part-most (p .before) false 0 e₁, told (held-tail (p .own) (p .out)) e₂ .on, part-most (p .behind) true (p .from) e₃);
             }

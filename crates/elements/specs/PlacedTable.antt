@@ -98,10 +98,17 @@ opening-outside bs {n} e = first (field flagWidth bs) refl (sym (type2-through u
     first (got m mid) p e = go m mid p (field-lt flagWidth bs p) e
     first (refused k) p e = let h : k ≡ n = cc in (rw p, sym h ∙ field-refused flagWidth bs p)
 
+pub opening-unseen : {os : List ℕ} {c : Cursor} {n : ℕ} → Gives opening os c (halted n) → look (window os c) ≡ outside
+opening-unseen {os} {c} e = opening-outside (window os c) (told-not e) .0
+
 module _ {os : List ℕ} {c k : Cursor} {o : OptionalU8} (e : Gives opening os c (placed o k)) where
   -- what it tells at a cursor
   at-opening : Opened (window os c) o (window os k)
   at-opening = opened (window os c) (told opening-tail e .said)
+
+  -- what the look sees there
+  pub opening-looks : look (window os c) ≡ cond (o .present) (opens (o .value)) ends
+  opening-looks = at-opening .looks
 
   -- the place moves, and less is left
   opening-on : (c .at < k .at) × (length (window os k) < length (window os c))
@@ -123,10 +130,10 @@ module _ {S A B : Type 0} (identifier : S → ℕ) (content : S → ℕ → Read
   module _ {k : Cursor} {o : OptionalU8} (e : Gives opening os c (placed o k)) where
     -- M-bit 0, or another identifier
     pub slot-ends : o .present ≡ false → {x : Placed B} → Gives (f none) os c x → Gives (slot identifier content s >>= f) os c x
-    slot-ends p g = alike (f none) (rw (at-opening e .looks) (rw p)) g
+    slot-ends p g = alike (f none) (rw (opening-looks e) (rw p)) g
 
     pub slot-other : o .present ≡ true → (o .value ≡ identifier s → ⊥) → {x : Placed B} → Gives (f none) os c x → Gives (slot identifier content s >>= f) os c x
-    slot-other p h g = alike (f none) (rw (at-opening e .looks) (rw p (rw (ne-eqb _ _ h)))) g
+    slot-other p h g = alike (f none) (rw (opening-looks e) (rw p (rw (ne-eqb _ _ h)))) g
 
     -- either of the two
     pub slot-absent : {P Q : Type 0} → P ⊎ Q → (P → (o .present ≡ true) × (o .value ≡ identifier s → ⊥)) → (Q → o .present ≡ false) → {x : Placed B}
@@ -138,7 +145,7 @@ module _ {S A B : Type 0} (identifier : S → ℕ) (content : S → ℕ → Read
         → Gives (slot identifier content s >>= f) os c x
     slot-there p h g =
         behind e (sized (content s) >>= λ a. f (some a))
-        (rw (at-opening e .looks) (rw p (rw (eq-eqb _ _ h) (rw (at-opening e .heads p) size)))) g
+        (rw (opening-looks e) (rw p (rw (eq-eqb _ _ h) (rw (at-opening e .heads p) size)))) g
       where
         y : Answer ℕ
         y = field lengthWidth (window os k)
@@ -188,17 +195,17 @@ module _ (listed : ℕ → Bool) where
     module _ {k : Cursor} {o : OptionalU8} (e : Gives opening os c (placed o k)) where
       -- they end before M-bit 0 and before a listed identifier
       pub tally-ends : o .present ≡ false → Gives (tally n) os c (placed n c)
-      tally-ends p = halts (at-end (rw p at (at-opening e .looks)))
+      tally-ends p = halts (at-end (rw p at (opening-looks e)))
 
       pub tally-listed : o .present ≡ true → listed (o .value) ≡ true → Gives (tally n) os c (placed n c)
-      tally-listed p t = halts (at-stop (o .value) (rw p at (at-opening e .looks)) t)
+      tally-listed p t = halts (at-stop (o .value) (rw p at (opening-looks e)) t)
 
       -- ONE MORE
       pub tally-on : o .present ≡ true → listed (o .value) ≡ false → {x : Placed ℕ} → Gives (body >>= λ z. tally (n + 1)) os k x → Gives (tally n) os c x
       unfolding whole piece
       tally-on p t g =
           behind e (body >>= λ z. tally (n + 1))
-          (rw (pieces-unfold listed (window os c)) (rw (at-opening e .looks) (rw p (rw t (rw (at-opening e .heads p) (size (field lengthWidth (window os k)))))))) g
+          (rw (pieces-unfold listed (window os c)) (rw (opening-looks e) (rw p (rw t (rw (at-opening e .heads p) (size (field lengthWidth (window os k)))))))) g
         where
           pieceOf : ℕ → Bits → Piece
           pieceOf i rest = record { identifier = i; bits = usedOf (window os c) rest }

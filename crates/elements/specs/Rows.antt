@@ -1,13 +1,13 @@
 -- A message's table as the code holds it, and its generic slots as the code reads them.
 use Prim.Native.Nat.{ℕ, zero, suc, _+_, _-_, min}
-use mathlib.Core.Bool.{Bool, true, false, cond}
+use mathlib.Core.Bool.{Bool, true, false, cond, not, _&&_}
 use mathlib.Core.Option.{Option}
 use mathlib.Core.List.{List, [], _∷_, map}
 use lib.ListN.{take, drop, replicate}
 use lib.Seq.{sets}
 use lib.Dec.{eqb}
 use Rattle.bits.specs.Reader.{Reader, got, _>>=_, field}
-use Rattle.elements.specs.Table.{lengthWidth, Counted, counted, closing, isListed, skip, slot}
+use Rattle.elements.specs.Table.{lengthWidth, Look, outside, ends, opens, Counted, counted, closing, isListed, skip, slot}
 use Rattle.elements.specs.Generics.{type3, type4}
 use Rattle.elements.specs.Kinds.{Kind, genericType3, genericType4, ofLocationDemand, ofLocationAccept, ofDownlinks, Slot, row, Element, heldElement, identifierOf, content}
 use Rattle.elements.specs.declared.typed_pdu_fields.OptionalType3.{OptionalType3}
@@ -109,6 +109,13 @@ abbrev pub behindPart : Bool → List Slot → Bool → Reader ℕ
 behindPart true table b = tableEnd table b
 behindPart false table b = skipping table b
 
-unfoldable pub part : List Slot → List Row → Bool → Bool → List Generic → ℕ → Reader Slots
-part table rs last b before from =
-    generics table rs b >>= λ x. behindPart last table b >>= λ n. got (slotsIn before from (counted (x .skipped + n) (x .value)))
+-- the values of a part stand in the array from its first place on, the others are absent
+unfoldable pub part : List Slot → List Row → Bool → Bool → ℕ → Reader Slots
+part table rs last b from =
+    generics table rs b >>= λ x. behindPart last table b >>= λ n. got (slotsIn noGenerics from (counted (x .skipped + n) (x .value)))
+
+-- whether the look sees an element that is listed, but not in the rows of a part
+abbrev pub elsewhere : List Slot → List Row → Look → Bool
+elsewhere table rs outside = false
+elsewhere table rs ends = false
+elsewhere table rs (opens i) = isListed identifierOf table i && not (isListed identifierOf (map rowOf rs) i)

@@ -21,7 +21,7 @@ ends-outside e = zero-one (cc)
 opens-outside : {P : Type 0} {i : ℕ} → opens i ≡ outside → P
 opens-outside e = zero-one (cc)
 
-ends-opens : {P : Type 0} {i : ℕ} → ends ≡ opens i → P
+pub ends-opens : {P : Type 0} {i : ℕ} → ends ≡ opens i → P
 ends-opens e = zero-one (cc)
 
 -- ## the look
@@ -311,6 +311,11 @@ module _ (stop : ℕ → Bool) where
   pieces-halts bs (at-end l) = pieces-unfold bs ∙ rw l
   pieces-halts bs (at-stop i l t) = pieces-unfold bs ∙ rw l (rw t)
 
+  -- nothing is skipped where they end
+  pub skip-halts : (b : Bool) (bs : Bits) → Halts stop (look bs) → skip stop b bs ≡ got 0 bs
+  skip-halts true bs h = rw (pieces-halts bs h)
+  skip-halts false bs h = refl
+
   pub pieces-on : (bs : Bits) {p : Piece} {mid : Bits} → Stands bs p mid → stop (p .identifier) ≡ false → pieces stop bs ≡ then (pieces stop mid) (λ ps. got (p ∷ ps))
   unfolding piece
   pieces-on bs {p} {mid} s t =
@@ -384,13 +389,12 @@ module _ {S A : Type 0} (identifier : S → ℕ) (content : S → ℕ → Reader
       l : look bs ≡ ends
       l = closing-ends bs e
 
-      skipped : (b : Bool) → skip listed b bs ≡ got 0 bs
-      skipped true = rw (pieces-halts listed bs (at-end l))
-      skipped false = refl
+      skipped : skip listed b bs ≡ got 0 bs
+      skipped = skip-halts listed b bs (at-end l)
 
       go : (ss : List S) → scan identifier content listed b ss bs ≡ got (counted 0 (map (λ s. none) ss)) rest
-      go [] = rw (skipped b, e)
-      go (s ∷ ss) = rw (skipped b, l, go ss)
+      go [] = rw (skipped, e)
+      go (s ∷ ss) = rw (skipped, l, go ss)
 
 -- ## what holds of each value that a content gives
 

@@ -2,14 +2,15 @@
 // identifiers, and the unlisted ones that the skipping reading passes.
 ghost use mathlib.Core.Path.{_≡_};
 ghost use mathlib.Core.Bool.{true};
+ghost use mathlib.Core.List.{map};
 ghost use Prim.Native.Nat.{_+_, min};
 ghost use Rattle.bits.specs.Reader.{word};
-ghost use Rattle.bits.specs.Placed.{at, asField, asMoved, refusal};
+ghost use Rattle.bits.specs.Placed.{window, at, asField, asMoved, refusal};
 ghost use Rattle.elements.specs.Numbers.{u8Of, u64Of, type2As};
 ghost use Rattle.elements.specs.Generics.{dataWidth, kept};
-ghost use Rattle.elements.specs.Table.{closing, isListed};
+ghost use Rattle.elements.specs.Table.{look, closing, isListed};
 ghost use Rattle.elements.specs.Kinds.{identifierOf};
-ghost use Rattle.elements.specs.Rows.{rowsOf, slotsFrom, skipping, tableEnd, emptyTable, behindPart, part, sized, genericType3At, genericType4At, genericSlot, type3From, type4From};
+ghost use Rattle.elements.specs.Rows.{rowOf, rowsOf, slotsFrom, elsewhere, skipping, tableEnd, emptyTable, behindPart, part, sized, genericType3At, genericType4At, genericSlot, type3From, type4From};
 ghost use Rattle.elements.specs.Answers.{optionalU8, optionalU32, optionalU64, opening, asOptionalU8, asOptionalU32, asOptionalU64, asSkipped, genericAnswer, slotsAnswer};
 ghost use Rattle.elements.specs.Fronts.{listFront, asListFront};
 use bits::bitbuffer::Cursor;
@@ -496,13 +497,13 @@ fn at_most_8(n: usize) -> usize
     if n < 8 { n } else { 8 }
 }
 
-// Whether a table has an identifier.
-pub fn is_listed(table: Table, identifier: u8) -> bool
-    ensures { λ r. ⌜ r ≡ isListed identifierOf (rowsOf table) identifier ⌝ }
+// Whether an identifier stands in the rows of a table from `from` up to `to`.
+fn has_row(table: Table, from: usize, to: usize, identifier: u8) -> bool
+    ensures { λ r. ⌜ r ≡ isListed identifierOf (map rowOf (slotsFrom table from to)) identifier ⌝ }
 {
-    let n = at_most_8(table.count);
-    let mut i: usize = 0;
-    while i < n {
+    let end = at_most_8(to);
+    let mut i = from;
+    while i < end {
         let row = table.rows[i];
         if row.identifier == identifier {
             return true;
@@ -510,6 +511,13 @@ pub fn is_listed(table: Table, identifier: u8) -> bool
         i += 1;
     }
     false
+}
+
+// Whether a table has an identifier.
+pub fn is_listed(table: Table, identifier: u8) -> bool
+    ensures { λ r. ⌜ r ≡ isListed identifierOf (rowsOf table) identifier ⌝ }
+{
+    has_row(table, 0, table.count, identifier)
 }
 
 // How many unlisted elements were skipped, and the cursor behind them.
@@ -642,9 +650,8 @@ fn read_behind(c: Cursor, octets: &[u8], table: Table, last: bool, wanted: bool)
     skip_if(c, octets, table, wanted)
 }
 
-// A part of a table: its slots from `from` up to `to`, which hold generic elements, put beside those read before; and what is
-// passed behind them.
-pub fn scan_part(
+// A part of a table, slot by slot: its slots from `from` up to `to`, which hold generic elements, and what is passed behind them.
+fn scan_slots(
     c: Cursor,
     octets: &[u8],
     table: Table,
@@ -652,11 +659,10 @@ pub fn scan_part(
     to: usize,
     last: bool,
     wanted: bool,
-    before: [Generic; 8],
 ) -> ScanRead
-    ensures { λ r. ⌜ r ≡ slotsAnswer (at (part (rowsOf table) (slotsFrom table from to) last wanted before from) (now (octets .entry)) c) ⌝ }
+    ensures { λ r. ⌜ r ≡ slotsAnswer (at (part (rowsOf table) (slotsFrom table from to) last wanted from) (now (octets .entry)) c) ⌝ }
 {
-    let mut generics = before;
+    let mut generics = NO_GENERICS;
     let mut place = c;
     let mut n: usize = 0;
     let mut i = from;
@@ -698,4 +704,49 @@ pub fn scan_part(
             generics: generics,
         },
     }
+}
+
+// Whether an element stands here that is listed, but not in the rows from `from` up to `to`.
+fn is_elsewhere(c: Cursor, octets: &[u8], table: Table, from: usize, to: usize) -> bool
+    ensures { λ r. ⌜ r ≡ elsewhere (rowsOf table) (slotsFrom table from to) (look (window (now (octets .entry)) c)) ⌝ }
+{
+    let l = peek_type34_mbit_and_id(c, octets);
+    let OptionalU8Read::Read(id, _) = l else {
+        return false;
+    };
+    if id.present {
+        return is_listed(table, id.value) & !has_row(table, from, to, id.value);
+    }
+    false
+}
+
+// The same part. Where the table ends, or an element of another part stands, it holds nothing and no slot is looked at.
+pub fn scan_part(
+    c: Cursor,
+    octets: &[u8],
+    table: Table,
+    from: usize,
+    to: usize,
+    last: bool,
+    wanted: bool,
+) -> ScanRead
+    ensures { λ r. ⌜ r ≡ slotsAnswer (at (part (rowsOf table) (slotsFrom table from to) last wanted from) (now (octets .entry)) c) ⌝ }
+{
+    if last {
+        let m = read_closing_mbit(c, octets);
+        if let Moved::To(c1) = m {
+            return ScanRead {
+                verdict: Moved::To(c1),
+                slots: NO_SLOTS,
+            };
+        }
+    } else {
+        if is_elsewhere(c, octets, table, from, to) {
+            return ScanRead {
+                verdict: Moved::To(c),
+                slots: NO_SLOTS,
+            };
+        }
+    }
+    scan_slots(c, octets, table, from, to, last, wanted)
 }

@@ -250,42 +250,8 @@ fn put_downlink(flat: &mut [u8], at: usize, g: GroupIdentityDownlink) -> usize
     )
 }
 
-// The first `count` groups, at most 63.
-fn put_uplink_groups(
-    flat: &mut [u8],
-    at: usize,
-    count: usize,
-    groups: [GroupIdentityUplink; 63],
-) -> usize
-    requires { ⌜ at + 46 * min count 63 ≤ length (now flat) ⌝ }
-    ensures { λ r. ⌜ Put (now (flat .entry)) at (each flatUplink (take count groups)) (now (flat .exit)) r ⌝ }
-{
-    let n = at_most_63(count);
-    let mut place = at;
-    let mut i: usize = 0;
-    while i < n {
-        let g = groups[i];
-        place = put_uplink(flat, place, g);
-        i += 1;
-    }
-    place
-}
-
-// A list's count, and its groups.
-fn put_uplinks(flat: &mut [u8], at: usize, present: bool, list: OptionalUplinks) -> usize
-    requires { ⌜ at + 9 + 46 * shown present (list .count) ≤ length (now flat) ⌝ }
-    ensures { λ r. ⌜ Put (now (flat .entry)) at (flatUplinks present list) (now (flat .exit)) r ⌝ }
-{
-    let a = put_field(flat, at, present, list.count as u64);
-    if present {
-        let groups = list.groups;
-        return put_uplink_groups(flat, a, list.count, groups);
-    }
-    a
-}
-
-// A list's count, and its groups. The location accept puts its own list: a function with one caller is compiled into it, and
-// the list isn't copied for the call.
+// A list's count, and its groups. Location demand and accept put their own lists: a function with one caller is compiled into it,
+// and the list isn't copied for the call.
 fn put_downlinks(flat: &mut [u8], at: usize, present: bool, list: OptionalDownlinks) -> usize
     requires { ⌜ at + 9 + 56 * shown present (list .count) ≤ length (now flat) ⌝ }
     ensures { λ r. ⌜ Put (now (flat .entry)) at (flatDownlinks present list) (now (flat .exit)) r ⌝ }
@@ -301,6 +267,7 @@ fn put_downlinks(flat: &mut [u8], at: usize, present: bool, list: OptionalDownli
     place
 }
 
+// The groups are taken out of their list first: taken with its count, they are copied off their alignment.
 fn put_location_demand(flat: &mut [u8], at: usize, o: OptionalLocationDemand) -> usize
     requires { ⌜ at + 19 + 46 * shownUplinks o ≤ length (now flat) ⌝ }
     ensures { λ r. ⌜ Put (now (flat .entry)) at (flatLocationDemand o) (now (flat .exit)) r ⌝ }
@@ -314,7 +281,17 @@ fn put_location_demand(flat: &mut [u8], at: usize, o: OptionalLocationDemand) ->
         o.present,
         v.group_identity_attach_detach_mode as u64,
     );
-    put_uplinks(flat, b, o.present & list.present, list)
+    let present = o.present & list.present;
+    let mut place = put_field(flat, b, present, list.count as u64);
+    let n = shown_uplinks(present, list);
+    let groups = list.groups;
+    let mut i: usize = 0;
+    while i < n {
+        let g = groups[i];
+        place = put_uplink(flat, place, g);
+        i += 1;
+    }
+    place
 }
 
 fn put_location_accept(flat: &mut [u8], at: usize, o: OptionalLocationAccept) -> usize

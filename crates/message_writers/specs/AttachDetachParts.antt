@@ -12,6 +12,7 @@ use Rattle.bits.specs.Placed.{Placed}
 use Rattle.bits.specs.Written.{joined, written}
 use Rattle.bits.specs.WrittenLaws.{Octets}
 use Rattle.bits.specs.PutsLaws.{Puts, _⨾_, joined-append}
+use Rattle.elements.specs.NumbersLaws.{neither}
 use Rattle.elements.specs.Table.{mbitWidth}
 use Rattle.elements.specs.Numbers.{optionAll, flagWidth, optionMap}
 use Rattle.elements.specs.Generics.{type3Fits}
@@ -29,7 +30,7 @@ use Rattle.messages.specs.AttachDetach.{attachDetachHeadOf, attachDetachTable, 
 use Rattle.messages.specs.QuestionsLaws.{each-of}
 use Rattle.messages.specs.declared.d_attach_detach_group_identity.AttachDetachHead.{AttachDetachHead}
 use Rattle.messages.specs.declared.d_attach_detach_group_identity.DAttachDetachGroupIdentity.{DAttachDetachGroupIdentity}
-use Rattle.message_writers.specs.WritesLaws.{genericBits, neither, kind-slot, type3-slot, type4-slot, slot-present, optional-length, InParts, in-parts}
+use Rattle.message_writers.specs.WritesLaws.{genericBits, kind-slot, type3-slot, type4-slot, slot-present, optional-length, InParts, in-parts}
 use Rattle.message_writers.specs.Parts.{none-there}
 
 -- whether anything follows the O-bit

@@ -10,7 +10,7 @@ use Rattle.bits.specs.Bits.{Bits, bit, digits}
 use Rattle.bits.specs.BitsLaws.{length-digits, digits-append, digits-add}
 use Rattle.bits.specs.Written.{joined}
 use Rattle.elements.specs.Numbers.{held, optionBits, optionAll, optionMap, inWidth, inU8, inU64, flagWidth, type2Bits}
-use Rattle.elements.specs.NumbersLaws.{both, one-bit}
+use Rattle.elements.specs.NumbersLaws.{both, one-bit, neither}
 use Rattle.elements.specs.ClassOfMs.{classBits, classFits}
 use Rattle.elements.specs.EnergySaving.{savingModeWidth}
 use Rattle.elements.specs.Locations.{locationDemandBits}
@@ -28,7 +28,7 @@ use Rattle.messages.specs.declared.u_location_update_demand.DemandOptions.{Dema
 use Rattle.messages.specs.declared.u_location_update_demand.DemandHead.{DemandHead}
 use Rattle.messages.specs.declared.u_location_update_demand.ULocationUpdateDemand.{ULocationUpdateDemand}
 use Rattle.message_writers.specs.Writes.{asAsked, Answered}
-use Rattle.message_writers.specs.WritesLaws.{all-in-three, neither, kind-slot, type3-slot, slot-present, optional-length, InParts, in-parts}
+use Rattle.message_writers.specs.WritesLaws.{all-in-three, kind-slot, type3-slot, slot-present, optional-length, InParts, in-parts}
 use Rattle.message_writers.specs.Parts.{class-length, addressesBits, addresses-length, fourAsked, fourTests, four-tests, fourParts, then-four, then-four-length, type2-length, cond-most}
 use Rattle.message_writers.specs.declared.parts.FourGenerics.{FourGenerics}
 

@@ -13,7 +13,7 @@ use Rattle.bits.specs.WrittenLaws.{Octets}
 use Rattle.bits.specs.PutsLaws.{Puts, _⨾_, one, write-nothing, joined-append}
 use Rattle.elements.specs.Table.{mbitWidth}
 use Rattle.elements.specs.Numbers.{held, optionAll, type2Bits, inU64, flagWidth}
-use Rattle.elements.specs.NumbersLaws.{both}
+use Rattle.elements.specs.NumbersLaws.{both, neither}
 use Rattle.elements.specs.ClassOfMs.{classBits, numbersBits}
 use Rattle.elements.specs.EnergySaving.{savingBits}
 use Rattle.elements.specs.Generics.{type3Fits}
@@ -25,7 +25,7 @@ use Rattle.elements.specs.declared.typed_pdu_fields.OptionalType3.{OptionalType
 use Rattle.element_writers.specs.WrittenElements.{type3Size, type3-size}
 use Rattle.messages.specs.Head.{ssiWidth, extensionWidth}
 use Rattle.messages.specs.Questions.{allOf}
-use Rattle.message_writers.specs.WritesLaws.{genericBits, neither}
+use Rattle.message_writers.specs.WritesLaws.{genericBits}
 use Rattle.message_writers.specs.declared.parts.FourGenerics.{FourGenerics}
 use Rattle.message_writers.specs.declared.parts.FourAsked.{FourAsked}
 

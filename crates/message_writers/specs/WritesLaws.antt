@@ -2,7 +2,7 @@
 use Prim.Native.Nat.{ℕ, zero, suc, _+_}
 use native.Mathlib.Omega.{arith}
 use mathlib.Core.Path.{_≡_, refl, sym, ap, _∙_}
-use mathlib.Core.Bool.{Bool, true, false, cond, false≢true, _&&_, _||_, and-assoc}
+use mathlib.Core.Bool.{Bool, true, false, cond, _&&_, and-assoc}
 use mathlib.Core.List.{List, [], _∷_, _++_}
 use lib.ListN.{length, length-append}
 use lib.Dec.{leb}
@@ -80,10 +80,6 @@ all-append (b ∷ bs) cs = rw (all-append bs cs) (sym (and-assoc b (allOf bs) (a
 pub all-in-three : (bs cs fs : List Bool) (l : Bool) {f : Bool} → allOf fs ≡ f → (allOf bs && (allOf cs && (l && f))) ≡ allOf (bs ++ (cs ++ (l ∷ fs)))
 all-in-three bs cs fs l e =
     sym (all-append bs (cs ++ (l ∷ fs)) ∙ ap (λ (b : Bool). allOf bs && b) (all-append cs (l ∷ fs) ∙ ap (λ (b : Bool). allOf cs && (l && b)) e))
-
-pub neither : (a b : Bool) → (a || b) ≡ false → (a ≡ false) × (b ≡ false)
-neither true b e = absurd (false≢true (sym e))
-neither false b e = (refl, e)
 
 -- ## the slots of a table
 

@@ -18,7 +18,6 @@ use elements::type34_elem_id_dl::GROUP_IDENTITY_DOWNLINK;
 use elements::type34_elem_id_dl::GROUP_IDENTITY_SECURITY_RELATED_INFORMATION;
 use elements::type34_elem_id_dl::GROUP_REPORT_RESPONSE;
 use elements::type34_elem_id_dl::PROPRIETARY;
-use elements::typed_pdu_fields::ABSENT;
 use elements::typed_pdu_fields::DOWNLINKS;
 use elements::typed_pdu_fields::Generic;
 use elements::typed_pdu_fields::NO_GENERICS;
@@ -30,6 +29,7 @@ use elements::typed_pdu_fields::Skipped;
 use elements::typed_pdu_fields::TYPE3;
 use elements::typed_pdu_fields::TYPE4;
 use elements::typed_pdu_fields::Table;
+use elements::typed_pdu_fields::read_closing_mbit;
 use elements::typed_pdu_fields::read_empty_table;
 use elements::typed_pdu_fields::scan_part;
 use elements::typed_pdu_fields::type3_of;
@@ -96,37 +96,36 @@ fn read_head(c: Cursor, octets: &[u8]) -> AttachDetachHeadRead
     AttachDetachHeadRead::Refused(INVALID_PDU_TYPE)
 }
 
-pub fn no_attach_detach() -> DAttachDetachGroupIdentity
-    ensures { λ r. ⌜ r ≡ noAttachDetach ⌝ }
-{
-    DAttachDetachGroupIdentity {
-        group_identity_report: 0,
-        group_identity_acknowledgement_request: 0,
-        group_identity_attach_detach_mode: 0,
-        proprietary: type3_of(ABSENT),
-        group_report_response: type3_of(ABSENT),
-        group_identity_downlink: no_downlinks(),
-        group_identity_security_related_information: type4_of(ABSENT),
-    }
-}
-
-// The record, of the head, the list and the generic slots.
+// The record, of the head, the list, and the generic slots before it and behind it.
 fn record_of(
     head: AttachDetachHead,
     list: OptionalDownlinks,
-    generics: [Generic; 8],
+    before: [Generic; 8],
+    behind: [Generic; 8],
 ) -> DAttachDetachGroupIdentity
-    ensures { λ r. ⌜ r ≡ attachDetachFrom head list generics ⌝ }
+    ensures { λ r. ⌜ r ≡ attachDetachFrom head list before behind ⌝ }
 {
     DAttachDetachGroupIdentity {
         group_identity_report: head.group_identity_report,
         group_identity_acknowledgement_request: head.group_identity_acknowledgement_request,
         group_identity_attach_detach_mode: head.group_identity_attach_detach_mode,
-        proprietary: type3_of(generics[0]),
-        group_report_response: type3_of(generics[1]),
+        proprietary: type3_of(before[0]),
+        group_report_response: type3_of(before[1]),
         group_identity_downlink: list.part_by_part(),
-        group_identity_security_related_information: type4_of(generics[3]),
+        group_identity_security_related_information: type4_of(behind[3]),
     }
+}
+
+pub fn no_attach_detach() -> DAttachDetachGroupIdentity
+    ensures { λ r. ⌜ r ≡ noAttachDetach ⌝ }
+{
+    let head = AttachDetachHead {
+        group_identity_report: 0,
+        group_identity_acknowledgement_request: 0,
+        group_identity_attach_detach_mode: 0,
+        obit: 0,
+    };
+    record_of(head, no_downlinks(), NO_GENERICS, NO_GENERICS)
 }
 
 // The count skipped and the place, or the refusal; and the record beside it.
@@ -173,45 +172,54 @@ fn refused(n: u8) -> AttachDetachRead
 
 impl DAttachDetachGroupIdentity {
     // The message: its head, and behind an O-bit of 1 its listed elements, if there are any. The table is laid out before the
-    // head is read: what was stored just before a call is slow to copy.
+    // head is read, and the octets are taken anew: what was stored just before a call, piece by piece, is slow to copy as a whole.
     pub fn from_bitbuf(c: Cursor, octets: &[u8], skipping: bool) -> AttachDetachRead
         ensures { λ r. ⌜ r ≡ attachDetachAnswer (at (message identifierOf content attachDetachFormat skipping) (now (octets .entry)) c) ⌝ }
     {
         let table = TABLE;
-        let h = read_head(c, octets);
-        let AttachDetachHeadRead::Read(head, c0) = h else {
+        let len = octets.len();
+        let all = &octets[0..len];
+        let h = read_head(c, all);
+        let AttachDetachHeadRead::Read(head, c1) = h else {
             return refused(h.refusal());
         };
-        let e = read_empty_table(c0, octets, head.obit == 1);
-        let Moved::To(c4) = e else {
-            let a = scan_part(c0, octets, table, 0, 2, false, skipping, NO_GENERICS);
+        let e = read_empty_table(c1, all, head.obit == 1);
+        let Moved::To(c2) = e else {
+            let a = scan_part(c1, all, table, 0, 2, false, skipping);
             let v = a.verdict;
-            let Moved::To(c1) = v else {
+            let Moved::To(c3) = v else {
                 return refused(v.refusal());
             };
-            let d = read_downlinks_slot(c1, octets, true, GROUP_IDENTITY_DOWNLINK);
+            let d = read_downlinks_slot(c3, all, true, GROUP_IDENTITY_DOWNLINK);
             let w = d.verdict;
-            let Moved::To(c2) = w else {
+            let Moved::To(c4) = w else {
                 return refused(w.refusal());
             };
             let front = a.slots;
             let before = front.generics;
-            let b = scan_part(c2, octets, table, 3, 4, true, skipping, before);
-            let x = b.verdict;
-            let Moved::To(c3) = x else {
-                return refused(x.refusal());
-            };
-            let back = b.slots;
-            let generics = back.generics;
             let list = d.list;
+            let z = read_closing_mbit(c4, all);
+            let Moved::To(c5) = z else {
+                let b = scan_part(c4, all, table, 3, 4, true, skipping);
+                let x = b.verdict;
+                let Moved::To(c6) = x else {
+                    return refused(x.refusal());
+                };
+                let back = b.slots;
+                let behind = back.generics;
+                return AttachDetachRead {
+                    verdict: Skipped::Count(front.skipped + back.skipped, c6),
+                    record: record_of(head, list, before, behind),
+                };
+            };
             return AttachDetachRead {
-                verdict: Skipped::Count(front.skipped + back.skipped, c3),
-                record: record_of(head, list, generics),
+                verdict: Skipped::Count(front.skipped, c5),
+                record: record_of(head, list, before, NO_GENERICS),
             };
         };
         AttachDetachRead {
-            verdict: Skipped::Count(0, c4),
-            record: record_of(head, no_downlinks(), NO_GENERICS),
+            verdict: Skipped::Count(0, c2),
+            record: record_of(head, no_downlinks(), NO_GENERICS, NO_GENERICS),
         }
     }
 }

@@ -4,7 +4,7 @@ ghost use mathlib.Core.Bool.{true};
 ghost use Rattle.bits.specs.Placed.{at, refusal, halted};
 ghost use Rattle.elements.specs.Kinds.{identifierOf, content};
 ghost use Rattle.messages.specs.Format.{body, message};
-ghost use Rattle.messages.specs.Accept.{acceptOptions, acceptOptionsIf, acceptHead};
+ghost use Rattle.messages.specs.Accept.{acceptOptions, noAcceptOptions, acceptOptionsIf, acceptHead};
 ghost use Rattle.messages.specs.Calls.{noAccept, acceptFormat};
 ghost use Rattle.messages.specs.MessageAnswers.{asAcceptOptions, asAcceptHead, acceptFrom, acceptAnswer};
 use bits::bitbuffer::Cursor;
@@ -27,7 +27,6 @@ use elements::type34_elem_id_dl::GROUP_IDENTITY_SECURITY_RELATED_INFORMATION;
 use elements::type34_elem_id_dl::NEW_REGISTERED_AREA;
 use elements::type34_elem_id_dl::PROPRIETARY;
 use elements::type34_elem_id_dl::SECURITY_DOWNLINK;
-use elements::typed_pdu_fields::ABSENT;
 use elements::typed_pdu_fields::Generic;
 use elements::typed_pdu_fields::LOCATION_ACCEPT;
 use elements::typed_pdu_fields::NO_GENERICS;
@@ -149,26 +148,29 @@ fn read_options(c: Cursor, octets: &[u8]) -> AcceptOptionsRead
     )
 }
 
-// The same behind an O-bit of 1.
+fn no_options() -> AcceptOptions
+    ensures { λ r. ⌜ r ≡ noAcceptOptions ⌝ }
+{
+    AcceptOptions {
+        ssi: NO_NUMBER,
+        address_extension: NO_NUMBER,
+        subscriber_class: NO_NUMBER,
+        energy_saving_information: OptionalEnergySavingInformation {
+            present: false,
+            value: no_energy_saving(),
+        },
+        scch_information_and_distribution_on_18th_frame: NO_NUMBER,
+    }
+}
+
+// The type 2 elements behind an O-bit of 1.
 fn read_options_if(c: Cursor, octets: &[u8], more: bool) -> AcceptOptionsRead
     ensures { λ r. ⌜ asAcceptOptions r ≡ at (acceptOptionsIf more) (now (octets .entry)) c ⌝ }
 {
     if more {
         return read_options(c, octets);
     }
-    AcceptOptionsRead::Read(
-        AcceptOptions {
-            ssi: NO_NUMBER,
-            address_extension: NO_NUMBER,
-            subscriber_class: NO_NUMBER,
-            energy_saving_information: OptionalEnergySavingInformation {
-                present: false,
-                value: no_energy_saving(),
-            },
-            scch_information_and_distribution_on_18th_frame: NO_NUMBER,
-        },
-        c,
-    )
+    AcceptOptionsRead::Read(no_options(), c)
 }
 
 // The type and the fields up to the O-bit, the O-bit and the type 2 elements.
@@ -204,40 +206,14 @@ fn read_head(c: Cursor, octets: &[u8]) -> AcceptHeadRead
     AcceptHeadRead::Refused(INVALID_PDU_TYPE)
 }
 
-pub fn no_accept() -> DLocationUpdateAccept
-    ensures { λ r. ⌜ r ≡ noAccept ⌝ }
-{
-    DLocationUpdateAccept {
-        location_update_accept_type: 0,
-        ssi: NO_NUMBER,
-        address_extension: NO_NUMBER,
-        subscriber_class: NO_NUMBER,
-        energy_saving_information: OptionalEnergySavingInformation {
-            present: false,
-            value: no_energy_saving(),
-        },
-        scch_information_and_distribution_on_18th_frame: NO_NUMBER,
-        new_registered_area: type4_of(ABSENT),
-        security_downlink: type3_of(ABSENT),
-        group_identity_location_accept: OptionalLocationAccept {
-            present: false,
-            value: no_location_accept(),
-        },
-        default_group_attachment_lifetime: type3_of(ABSENT),
-        authentication_downlink: type3_of(ABSENT),
-        group_identity_security_related_information: type4_of(ABSENT),
-        cell_type_control: type3_of(ABSENT),
-        proprietary: type3_of(ABSENT),
-    }
-}
-
-// The record, of the head, the location accept and the generic slots.
+// The record, of the head, the location accept, and the generic slots before it and behind it.
 fn record_of(
     head: AcceptHead,
     location: OptionalLocationAccept,
-    generics: [Generic; 8],
+    before: [Generic; 8],
+    behind: [Generic; 8],
 ) -> DLocationUpdateAccept
-    ensures { λ r. ⌜ r ≡ acceptFrom head location generics ⌝ }
+    ensures { λ r. ⌜ r ≡ acceptFrom head location before behind ⌝ }
 {
     let options = head.options;
     let ssi = options.ssi;
@@ -252,15 +228,30 @@ fn record_of(
         subscriber_class: subscriber_class,
         energy_saving_information: saving,
         scch_information_and_distribution_on_18th_frame: scch,
-        new_registered_area: type4_of(generics[0]),
-        security_downlink: type3_of(generics[1]),
+        new_registered_area: type4_of(before[0]),
+        security_downlink: type3_of(before[1]),
         group_identity_location_accept: location.part_by_part(),
-        default_group_attachment_lifetime: type3_of(generics[3]),
-        authentication_downlink: type3_of(generics[4]),
-        group_identity_security_related_information: type4_of(generics[5]),
-        cell_type_control: type3_of(generics[6]),
-        proprietary: type3_of(generics[7]),
+        default_group_attachment_lifetime: type3_of(behind[3]),
+        authentication_downlink: type3_of(behind[4]),
+        group_identity_security_related_information: type4_of(behind[5]),
+        cell_type_control: type3_of(behind[6]),
+        proprietary: type3_of(behind[7]),
     }
+}
+
+pub fn no_accept() -> DLocationUpdateAccept
+    ensures { λ r. ⌜ r ≡ noAccept ⌝ }
+{
+    let head = AcceptHead {
+        location_update_accept_type: 0,
+        obit: 0,
+        options: no_options(),
+    };
+    let none = OptionalLocationAccept {
+        present: false,
+        value: no_location_accept(),
+    };
+    record_of(head, none, NO_GENERICS, NO_GENERICS)
 }
 
 // The count skipped and the place, or the refusal; and the record beside it.
@@ -321,7 +312,7 @@ fn refused(n: u8) -> AcceptRead
 fn read_elements(c: Cursor, octets: &[u8], head: AcceptHead, skipping: bool) -> AcceptRead
     ensures { λ r. ⌜ r ≡ acceptAnswer (at (body identifierOf content acceptFormat skipping head true) (now (octets .entry)) c) ⌝ }
 {
-    let a = scan_part(c, octets, TABLE, 0, 2, false, skipping, NO_GENERICS);
+    let a = scan_part(c, octets, TABLE, 0, 2, false, skipping);
     let v = a.verdict;
     let Moved::To(c1) = v else {
         return refused(v.refusal());
@@ -331,19 +322,19 @@ fn read_elements(c: Cursor, octets: &[u8], head: AcceptHead, skipping: bool) -> 
     let Moved::To(c2) = w else {
         return refused(w.refusal());
     };
-    let front = a.slots;
-    let before = front.generics;
-    let b = scan_part(c2, octets, TABLE, 3, 8, true, skipping, before);
+    let b = scan_part(c2, octets, TABLE, 3, 8, true, skipping);
     let x = b.verdict;
     let Moved::To(c3) = x else {
         return refused(x.refusal());
     };
+    let front = a.slots;
     let back = b.slots;
-    let generics = back.generics;
+    let before = front.generics;
+    let behind = back.generics;
     let location = d.location;
     AcceptRead {
         verdict: Skipped::Count(front.skipped + back.skipped, c3),
-        record: record_of(head, location, generics),
+        record: record_of(head, location, before, behind),
     }
 }
 
@@ -366,7 +357,7 @@ impl DLocationUpdateAccept {
         };
         AcceptRead {
             verdict: Skipped::Count(0, c2),
-            record: record_of(head, none, NO_GENERICS),
+            record: record_of(head, none, NO_GENERICS, NO_GENERICS),
         }
     }
 }

@@ -4,7 +4,7 @@ ghost use mathlib.Core.Bool.{true};
 ghost use Rattle.bits.specs.Placed.{at, refusal, halted};
 ghost use Rattle.elements.specs.Kinds.{identifierOf, content};
 ghost use Rattle.messages.specs.Format.{body, message};
-ghost use Rattle.messages.specs.Demand.{demandOptions, demandOptionsIf, demandHead};
+ghost use Rattle.messages.specs.Demand.{demandOptions, noDemandOptions, demandOptionsIf, demandHead};
 ghost use Rattle.messages.specs.Calls.{noDemand, demandFormat};
 ghost use Rattle.messages.specs.MessageAnswers.{asDemandOptions, asDemandHead, demandFrom, demandAnswer};
 use bits::bitbuffer::Cursor;
@@ -24,7 +24,6 @@ use elements::type34_elem_id_ul::EXTENDED_CAPABILITIES;
 use elements::type34_elem_id_ul::GROUP_IDENTITY_LOCATION_DEMAND;
 use elements::type34_elem_id_ul::GROUP_REPORT_RESPONSE;
 use elements::type34_elem_id_ul::PROPRIETARY;
-use elements::typed_pdu_fields::ABSENT;
 use elements::typed_pdu_fields::Generic;
 use elements::typed_pdu_fields::LOCATION_DEMAND;
 use elements::typed_pdu_fields::NO_GENERICS;
@@ -155,31 +154,32 @@ fn read_options(c: Cursor, octets: &[u8]) -> DemandOptionsRead
     )
 }
 
-const NO_MODE: OptionalU8 = OptionalU8 {
-    present: false,
-    value: 0,
-};
+fn no_options() -> DemandOptions
+    ensures { λ r. ⌜ r ≡ noDemandOptions ⌝ }
+{
+    DemandOptions {
+        class_of_ms: OptionalClassOfMs {
+            present: false,
+            value: no_class_of_ms(),
+        },
+        energy_saving_mode: OptionalU8 {
+            present: false,
+            value: 0,
+        },
+        la_information: NO_NUMBER,
+        ssi: NO_NUMBER,
+        address_extension: NO_NUMBER,
+    }
+}
 
-// The same behind an O-bit of 1.
+// The type 2 elements behind an O-bit of 1.
 fn read_options_if(c: Cursor, octets: &[u8], more: bool) -> DemandOptionsRead
     ensures { λ r. ⌜ asDemandOptions r ≡ at (demandOptionsIf more) (now (octets .entry)) c ⌝ }
 {
     if more {
         return read_options(c, octets);
     }
-    DemandOptionsRead::Read(
-        DemandOptions {
-            class_of_ms: OptionalClassOfMs {
-                present: false,
-                value: no_class_of_ms(),
-            },
-            energy_saving_mode: NO_MODE,
-            la_information: NO_NUMBER,
-            ssi: NO_NUMBER,
-            address_extension: NO_NUMBER,
-        },
-        c,
-    )
+    DemandOptionsRead::Read(no_options(), c)
 }
 
 // The type and the fields up to the O-bit, the O-bit and the type 2 elements.
@@ -230,33 +230,6 @@ fn read_head(c: Cursor, octets: &[u8]) -> DemandHeadRead
     DemandHeadRead::Refused(INVALID_PDU_TYPE)
 }
 
-pub fn no_demand() -> ULocationUpdateDemand
-    ensures { λ r. ⌜ r ≡ noDemand ⌝ }
-{
-    ULocationUpdateDemand {
-        location_update_type: 0,
-        request_to_append_la: 0,
-        cipher_control: 0,
-        ciphering_parameters: NO_NUMBER,
-        class_of_ms: OptionalClassOfMs {
-            present: false,
-            value: no_class_of_ms(),
-        },
-        energy_saving_mode: NO_MODE,
-        la_information: NO_NUMBER,
-        ssi: NO_NUMBER,
-        address_extension: NO_NUMBER,
-        group_identity_location_demand: OptionalLocationDemand {
-            present: false,
-            value: no_location_demand(),
-        },
-        group_report_response: type3_of(ABSENT),
-        authentication_uplink: type3_of(ABSENT),
-        extended_capabilities: type3_of(ABSENT),
-        proprietary: type3_of(ABSENT),
-    }
-}
-
 // The record, of the head, the location demand and the generic slots.
 fn record_of(
     head: DemandHead,
@@ -291,6 +264,24 @@ fn record_of(
         extended_capabilities: type3_of(generics[3]),
         proprietary: type3_of(generics[4]),
     }
+}
+
+pub fn no_demand() -> ULocationUpdateDemand
+    ensures { λ r. ⌜ r ≡ noDemand ⌝ }
+{
+    let head = DemandHead {
+        location_update_type: 0,
+        request_to_append_la: 0,
+        cipher_control: 0,
+        ciphering_parameters: NO_NUMBER,
+        obit: 0,
+        options: no_options(),
+    };
+    let none = OptionalLocationDemand {
+        present: false,
+        value: no_location_demand(),
+    };
+    record_of(head, none, NO_GENERICS)
 }
 
 // The count skipped and the place, or the refusal; and the record beside it.
@@ -351,7 +342,7 @@ fn read_elements(c: Cursor, octets: &[u8], head: DemandHead, skipping: bool) -> 
     let Moved::To(c2) = w else {
         return refused(w.refusal());
     };
-    let b = scan_part(c2, octets, TABLE, 1, 5, true, skipping, NO_GENERICS);
+    let b = scan_part(c2, octets, TABLE, 1, 5, true, skipping);
     let x = b.verdict;
     let Moved::To(c3) = x else {
         return refused(x.refusal());

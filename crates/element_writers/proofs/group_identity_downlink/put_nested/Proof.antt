@@ -1,10 +1,9 @@
 -- `element_writers::group_identity_downlink::put_nested` meets its contract. Assumes nothing.
-use mathlib.Core.List.{_++_}
-use Rattle.bits.specs.Bits.{bit, digits}
-use Rattle.bits.specs.Written.{Holds, bitsIn}
+use Rattle.bits.specs.Placed.{asPlace}
+use Rattle.bits.specs.Written.{written, bitsIn}
+use Rattle.bits.specs.PlacedLaws.{Fact, fact}
 use Rattle.bits.specs.DigitsLaws.{no-digits, _▹_, behind}
 use Rattle.bits.specs.PutsLaws.{field}
-use Rattle.elements.specs.Numbers.{flagWidth}
 use Rattle.elements.specs.Lists.{downlinks}
 use Rattle.elements.specs.Locations.{groupIdentityDownlink}
 use Rattle.element_writers.specs.GroupParts.{downlinkParts}
@@ -13,9 +12,11 @@ use borrow.Author.Needs.{needs}
 use Rattle.element_writers.proofs.group_identity_downlink.put_nested.Statement.{statement}
 use Rattle.element_writers.proofs.group_identity_downlink.put_nested.Tie as tie
 
--- the bits that stand before the list
-front-held : (v : tie.After-then) → let a = v .before .before .before .before .args in Holds (v .then .result) (bitsIn (a .front) ++ digits flagWidth (bit (a .list .present)))
-front-held v = behind (rw (v .before .bit-of .ensures) at (v .then .ensures))
+-- what stands before the list is written
+abbrev front-put : tie.After-put → Fact
+front-put c =
+    let v = c .before .before .before .before .before in
+    fact (field {w = written (v .args .octets .now) (asPlace (v .args .m))} (behind (rw (c .before .before .bit-of .ensures) at (c .before .then .ensures))) (flag-fits (v .args .front) _ (v .pre)) (c .put .ensures))
 
 bit-of-requires : tie.Need-bit-of-requires
 bit-of-requires c κs = search needs
@@ -41,7 +42,7 @@ same-length c = search needs
 returns : tie.Need-returns
 returns c =
     let a = c .before .before .before .before .before .before .before .before .before .before .before .before .before .before .before .before .before .before .before .args in
-    nested-there downlinks downlinkParts groupIdentityDownlink (bitsIn (a .front)) (a .size) (a .list) (c .before .before .before .before .before .before .before .before .before .before .before .if1 .taken) (field (front-held (c .before .before .before .before .before .before .before .before .before .before .before .before .before .before .before)) (flag-fits (a .front) _ (c .before .before .before .before .before .before .before .before .before .before .before .before .before .before .before .before .before .before .before .pre)) (c .before .before .before .before .before .before .before .before .before .before .before .before .before .before .put .ensures))
+    nested-there downlinks downlinkParts groupIdentityDownlink (bitsIn (a .front)) (a .size) (a .list) (c .before .before .before .before .before .before .before .before .before .before .before .if1 .taken) (front-put (c .before .before .before .before .before .before .before .before .before .before .before .before .before .before) .holds)
     (c .before .before .before .before .before .before .before .put-list .ensures) (field (no-digits ▹ c .before .before .before .then2 .ensures) closing-fits (c .before .before .put2 .ensures))
 
 put-list-front-requires : tie.Need-put-list-front-requires
@@ -59,7 +60,7 @@ same-length-2 c = search needs
 returns-2 : tie.Need-returns-2
 returns-2 c =
     let a = c .before .before .before .before .before .before .before .before .before .before .before .before .before .before .before .before .before .before .before .args in
-    nested-there downlinks downlinkParts groupIdentityDownlink (bitsIn (a .front)) (a .size) (a .list) (c .before .before .before .before .before .before .before .before .before .before .before .if1 .taken) (field (front-held (c .before .before .before .before .before .before .before .before .before .before .before .before .before .before .before)) (flag-fits (a .front) _ (c .before .before .before .before .before .before .before .before .before .before .before .before .before .before .before .before .before .before .before .pre)) (c .before .before .before .before .before .before .before .before .before .before .before .before .before .before .put .ensures))
+    nested-there downlinks downlinkParts groupIdentityDownlink (bitsIn (a .front)) (a .size) (a .list) (c .before .before .before .before .before .before .before .before .before .before .before .if1 .taken) (front-put (c .before .before .before .before .before .before .before .before .before .before .before .before .before .before) .holds)
     (list-empty downlinks downlinkParts groupIdentityDownlink (a .size) (a .list) (c .before .before .before .before .before .before .before .before .before .if2 .left) (c .before .before .before .before .before .before .before .put-list-front .ensures)) (field (no-digits ▹ c .before .before .before .then3 .ensures) closing-fits (c .before .before .put3 .ensures))
 
 same-length-3 : tie.Need-same-length-3
@@ -68,7 +69,7 @@ same-length-3 c = search needs
 returns-3 : tie.Need-returns-3
 returns-3 c =
     let a = c .before .before .before .before .before .before .before .before .args in
-    nested-absent downlinks downlinkParts groupIdentityDownlink (bitsIn (a .front)) (a .size) (a .list) (c .if1 .left) (field (front-held (c .before .before .before .before)) (flag-fits (a .front) _ (c .before .before .before .before .before .before .before .before .pre)) (c .before .before .before .put .ensures))
+    nested-absent downlinks downlinkParts groupIdentityDownlink (bitsIn (a .front)) (a .size) (a .list) (c .if1 .left) (front-put (c .before .before .before) .holds)
 
 pub put-nested-spec : {M : Type 1} → statement M
 put-nested-spec =

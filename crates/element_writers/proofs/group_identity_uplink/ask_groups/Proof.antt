@@ -1,10 +1,10 @@
 -- `element_writers::group_identity_uplink::ask_groups` meets its contract. Assumes nothing.
 use Prim.Native.Nat.{_*_, _-_, _≤_}
 use native.Mathlib.Omega.{arith}
-use mathlib.Core.Path.{_≡_}
+use mathlib.Core.Path.{_≡_, _∙_}
 use lib.ListN.{take}
 use Rattle.elements.specs.Lists.{uplinks, all, each}
-use Rattle.element_writers.specs.GroupsAsked.{askedEach, asked-more}
+use Rattle.element_writers.specs.GroupsAsked.{askedEach, asked-more, none-asked}
 use borrow.Author.Needs.{needs}
 use Rattle.element_writers.proofs.group_identity_uplink.ask_groups.Statement.{statement}
 use Rattle.element_writers.proofs.group_identity_uplink.ask_groups.Tie as tie
@@ -15,9 +15,12 @@ Inv-loop count groups asked₀ i₀ asked i = (i ≤ count) × (asked ≡ askedE
 abbrev μ-loop : tie.MeasureT-loop
 μ-loop count groups asked₀ i₀ asked i = count - i
 
+no-groups-requires : tie.Need-no-groups-requires Inv-loop μ-loop
+no-groups-requires c κs = search needs
+
 loop-holds : tie.Need-loop-holds Inv-loop μ-loop
 unfolding all each
-loop-holds c = search needs
+loop-holds c = rw (c .no-groups .ensures .0 ∙ none-asked uplinks) (search needs)
 
 mul-g : tie.Need-mul-g Inv-loop μ-loop
 mul-g c = search needs
@@ -41,12 +44,12 @@ loop-again : tie.Need-loop-again Inv-loop μ-loop
 loop-again c =
     let l = c .before .before .before .before .before .before .before .before .before .before .before .loop in
     let q = c .before .before .before .before .before .before .before .before .asked-of .ensures in
-    (omega arith, asked-more uplinks (c .before .before .before .before .before .before .before .before .before .before .before .before .args .t1) (l .i) _ (omega arith) (l .inv .1) (q .0), omega arith)
+    (omega arith, asked-more uplinks (c .before .before .before .before .before .before .before .before .before .before .before .before .before .args .t1) (l .i) _ (omega arith) (l .inv .1) (q .0), omega arith)
 
 returns : tie.Need-returns Inv-loop μ-loop
 returns c =
     let l = c .before .loop in
-    let a = c .before .before .args in
+    let a = c .before .before .before .args in
     let all : l .i ≡ a .count = omega arith in
     (rw (← all) (l .inv .1), omega arith)
 
@@ -56,6 +59,7 @@ ask-groups-spec =
     (tie.spec
     Inv-loop
     μ-loop
+    no-groups-requires
     loop-holds
     mul-g
     array-copy-out-g

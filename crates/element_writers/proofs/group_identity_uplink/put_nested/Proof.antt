@@ -1,6 +1,7 @@
 -- `element_writers::group_identity_uplink::put_nested` meets its contract. Assumes nothing.
-use native.Mathlib.Omega.{arith}
-use Rattle.bits.specs.Written.{bitsIn}
+use Rattle.bits.specs.Placed.{asPlace}
+use Rattle.bits.specs.Written.{written, bitsIn}
+use Rattle.bits.specs.PlacedLaws.{Fact, fact}
 use Rattle.bits.specs.DigitsLaws.{no-digits, _▹_, behind}
 use Rattle.bits.specs.PutsLaws.{field}
 use Rattle.elements.specs.Lists.{uplinks}
@@ -10,6 +11,12 @@ use Rattle.element_writers.specs.WrittenElements.{flag-fits, closing-fit
 use borrow.Author.Needs.{needs}
 use Rattle.element_writers.proofs.group_identity_uplink.put_nested.Statement.{statement}
 use Rattle.element_writers.proofs.group_identity_uplink.put_nested.Tie as tie
+
+-- what stands before the list is written
+abbrev front-put : tie.After-put → Fact
+front-put c =
+    let v = c .before .before .before .before .before in
+    fact (field {w = written (v .args .octets .now) (asPlace (v .args .m))} (behind (rw (c .before .before .bit-of .ensures) at (c .before .then .ensures))) (flag-fits (v .args .front) _ (v .pre)) (c .put .ensures))
 
 bit-of-requires : tie.Need-bit-of-requires
 bit-of-requires c κs = search needs
@@ -35,9 +42,8 @@ same-length c = search needs
 returns : tie.Need-returns
 returns c =
     let a = c .before .before .before .before .before .before .before .before .before .before .before .before .before .before .before .before .before .args in
-    let e = rw (c .before .before .before .before .before .before .before .before .before .before .before .before .before .before .bit-of .ensures) at (c .before .before .before .before .before .before .before .before .before .before .before .before .before .then .ensures) in
     nested-there uplinks uplinkParts groupIdentityUplink (bitsIn (a .front)) (a .size) (a .list) (c .before .before .before .before .before .before .before .before .before .if1 .taken)
-    (field (behind e) (flag-fits (a .front) _ (omega arith)) (c .before .before .before .before .before .before .before .before .before .before .before .before .put .ensures))
+    (front-put (c .before .before .before .before .before .before .before .before .before .before .before .before) .holds)
     (c .before .before .before .before .before .before .before .put-list .ensures) (field (no-digits ▹ c .before .before .before .then2 .ensures) closing-fits (c .before .before .put2 .ensures))
 
 same-length-2 : tie.Need-same-length-2
@@ -46,9 +52,7 @@ same-length-2 c = search needs
 returns-2 : tie.Need-returns-2
 returns-2 c =
     let a = c .before .before .before .before .before .before .before .before .args in
-    let e = rw (c .before .before .before .before .before .bit-of .ensures) at (c .before .before .before .before .then .ensures) in
-    nested-absent uplinks uplinkParts groupIdentityUplink (bitsIn (a .front)) (a .size) (a .list) (c .if1 .left)
-    (field (behind e) (flag-fits (a .front) _ (omega arith)) (c .before .before .before .put .ensures))
+    nested-absent uplinks uplinkParts groupIdentityUplink (bitsIn (a .front)) (a .size) (a .list) (c .if1 .left) (front-put (c .before .before .before) .holds)
 
 pub put-nested-spec : {M : Type 1} → statement M
 put-nested-spec =

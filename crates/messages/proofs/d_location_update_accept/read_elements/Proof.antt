@@ -34,7 +34,7 @@ back = record { identifier = 1; kind = 0 } ∷ record { identifier = 10; kind = 
 
 -- what the slots hold, and the same as the code holds it, make the same record
 same-record : (h : AcceptHead) (vs ws : List (Option Element)) (v : Option Element) (gs hs : List Generic) → Each front vs gs → Each back ws hs
-    → acceptFormat .finish h (vs ++ (v ∷ ws)) ≡ ofAccept (acceptFrom h (heldElement v .locationAccept) (sets (sets noGenerics 0 gs) 3 hs))
+    → acceptFormat .finish h (vs ++ (v ∷ ws)) ≡ ofAccept (acceptFrom h (heldElement v .locationAccept) (sets noGenerics 0 gs) (sets noGenerics 3 hs))
 same-record h vs ws v gs hs (one-more (one-more no-more)) (one-more (one-more (one-more (one-more (one-more no-more))))) = refl
 
 abbrev parts : AcceptHead → Parts OptionalLocationAccept Record
@@ -45,29 +45,29 @@ parts h = record {
   from = 3;
   out = λ o. heldElement o .locationAccept;
   made = acceptFormat .finish h;
-  held = λ l gs. ofAccept (acceptFrom h l gs);
+  held = λ l gs hs. ofAccept (acceptFrom h l gs hs);
   same = same-record h;
 }
 
 -- each part, where it is read
 
 front-read : (c : tie.After-v) → let a = c .before .before .before .before .args in
-    Gives (part acceptTable front false (a .skipping) noGenerics 0) (a .octets .now) (a .c) (placed (c .before .before .scan-part .result .slots) (c .v .given .0 .0))
+    Gives (part acceptTable front false (a .skipping) 0) (a .octets .now) (a .c) (placed (c .before .before .scan-part .result .slots) (c .v .given .0 .0))
 front-read c = verdict-to slots-beside (c .before .before .scan-part .ensures) (c .v .given .1)
 
 slot-read : (c : tie.After-w) → Gives (locationAcceptSlot 5) (c .before .before .before .before .before .before .before .before .args .octets .now) (c .before .before .before .before .v .given .0 .0) (placed (c .before .before .read-location-accept-slot .result .location) (c .w .given .0 .0))
 slot-read c = verdict-to location-accept-slot-beside (c .before .before .read-location-accept-slot .ensures) (c .w .given .1)
 
-back-read : (c : tie.After-x) → let a = c .before .before .before .before .before .before .before .before .before .before .before .before .before .before .args in
-    Gives (part acceptTable back true (a .skipping) (c .before .before .before .before .before .before .before .before .before .before .before .before .scan-part .result .slots .generics) 3) (a .octets .now) (c .before .before .before .before .before .before .w .given .0 .0) (placed (c .before .before .scan-part2 .result .slots) (c .x .given .0 .0))
+back-read : (c : tie.After-x) → let a = c .before .before .before .before .before .before .before .before .before .before .before .before .args in
+    Gives (part acceptTable back true (a .skipping) 3) (a .octets .now) (c .before .before .before .before .w .given .0 .0) (placed (c .before .before .scan-part2 .result .slots) (c .x .given .0 .0))
 back-read c = verdict-to slots-beside (c .before .before .scan-part2 .ensures) (c .x .given .1)
 
 -- the table, of its parts
 abbrev whole : tie.After-x → Fact
 unfolding locationAcceptSlot
 whole c =
-    let a = c .before .before .before .before .before .before .before .before .before .before .before .before .before .before .args in
-    fact (all-read _ (a .skipping) (parts (a .head)) (front-read (c .before .before .before .before .before .before .before .before .before .before)) (slot-read (c .before .before .before .before .before .before)) (back-read c))
+    let a = c .before .before .before .before .before .before .before .before .before .before .before .before .args in
+    fact (all-read _ (a .skipping) (parts (a .head)) (front-read (c .before .before .before .before .before .before .before .before)) (slot-read (c .before .before .before .before)) (back-read c))
 
 scan-part-requires : tie.Need-scan-part-requires
 scan-part-requires c κs = search needs
@@ -129,22 +129,22 @@ refused-requires-3 c κs = search needs
 returns-3 : tie.Need-returns-3
 unfolding locationAcceptSlot
 returns-3 c =
-    let a = c .before .before .before .before .before .before .before .before .before .before .before .before .before .before .before .before .args in
-    c .refused3 .ensures ∙ answer acceptAnswer (no-back _ (a .skipping) (parts (a .head)) (front-read (c .before .before .before .before .before .before .before .before .before .before .before .before))
-    (slot-read (c .before .before .before .before .before .before .before .before)) (verdict-refused slots-beside (c .before .before .before .before .scan-part2 .ensures) (numbered (c .before .before .enum-told3 .given .1) (c .before .refusal3 .ensures))))
+    let a = c .before .before .before .before .before .before .before .before .before .before .before .before .before .before .args in
+    c .refused3 .ensures ∙ answer acceptAnswer (no-back _ (a .skipping) (parts (a .head)) (front-read (c .before .before .before .before .before .before .before .before .before .before))
+    (slot-read (c .before .before .before .before .before .before)) (verdict-refused slots-beside (c .before .before .before .before .scan-part2 .ensures) (numbered (c .before .before .enum-told3 .given .1) (c .before .refusal3 .ensures))))
 
-add-t34 : tie.Need-add-t34
+add-t32 : tie.Need-add-t32
 unfolding locationAcceptSlot
-add-t34 c =
-    let most = whole (c .before .before .before .before .before .before) .holds .most in
-    omega (arith, c .before .before .before .before .before .known-told3 .given)
+add-t32 c =
+    let most = whole (c .before .before .before .before .before .before .before .before) .holds .most in
+    omega (arith, c .before .before .before .before .before .before .before .known-told3 .given)
 
 record-of-requires : tie.Need-record-of-requires
 record-of-requires c κs = search needs
 
 returns-4 : tie.Need-returns-4
 unfolding locationAcceptSlot
-returns-4 c = rw (c .record-of .ensures) (answer acceptAnswer (whole (c .before .before .before .before .before .before .before) .holds .is))
+returns-4 c = rw (c .record-of .ensures) (answer acceptAnswer (whole (c .before .before .before .before .before .before .before .before .before) .holds .is))
 
 pub read-elements-spec : {M : Type 1} → statement M
 read-elements-spec =
@@ -168,6 +168,6 @@ read-elements-spec =
     refusal-requires-3
     refused-requires-3
     returns-3
-    add-t34
+    add-t32
     record-of-requires
     returns-4)

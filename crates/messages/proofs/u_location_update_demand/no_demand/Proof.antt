@@ -3,43 +3,18 @@ use borrow.Author.Needs.{needs}
 use Rattle.messages.proofs.u_location_update_demand.no_demand.Statement.{statement}
 use Rattle.messages.proofs.u_location_update_demand.no_demand.Tie as tie
 
-no-class-of-ms-requires : tie.Need-no-class-of-ms-requires
-no-class-of-ms-requires c κs = search needs
+no-options-requires : tie.Need-no-options-requires
+no-options-requires c κs = search needs
 
 no-location-demand-requires : tie.Need-no-location-demand-requires
 no-location-demand-requires c κs = search needs
 
-type3-of-requires : tie.Need-type3-of-requires
-type3-of-requires c κs = search needs
-
-type3-of-requires-2 : tie.Need-type3-of-requires-2
-type3-of-requires-2 c κs = search needs
-
-type3-of-requires-3 : tie.Need-type3-of-requires-3
-type3-of-requires-3 c κs = search needs
-
-type3-of-requires-4 : tie.Need-type3-of-requires-4
-type3-of-requires-4 c κs = search needs
+record-of-requires : tie.Need-record-of-requires
+record-of-requires c κs = search needs
 
 returns : tie.Need-returns
-returns c =
-    rw (
-      c .before .before .before .before .before .no-class-of-ms .ensures,
-      c .before .before .before .before .no-location-demand .ensures,
-      c .before .before .before .type3-of .ensures,
-      c .before .before .type3-of2 .ensures,
-      c .before .type3-of3 .ensures,
-      c .type3-of4 .ensures,
-    )
+returns c = rw (c .record-of .ensures, c .before .no-location-demand .ensures, c .before .before .no-options .ensures)
 
 pub no-demand-spec : {M : Type 1} → statement M
 no-demand-spec =
-    tie.close
-    (tie.spec
-    no-class-of-ms-requires
-    no-location-demand-requires
-    type3-of-requires
-    type3-of-requires-2
-    type3-of-requires-3
-    type3-of-requires-4
-    returns)
+    tie.close (tie.spec no-options-requires no-location-demand-requires record-of-requires returns)

@@ -35,7 +35,7 @@ back = record { identifier = 4; kind = 0 } ∷ record { identifier = 9; kind = 0
 
 -- what the slots hold, and the same as the code holds it, make the same record
 same-record : (h : DemandHead) (vs ws : List (Option Element)) (v : Option Element) (gs hs : List Generic) → Each front vs gs → Each back ws hs
-    → demandFormat .finish h (vs ++ (v ∷ ws)) ≡ ofDemand (demandFrom h (heldElement v .locationDemand) (sets (sets noGenerics 0 gs) 1 hs))
+    → demandFormat .finish h (vs ++ (v ∷ ws)) ≡ ofDemand (demandFrom h (heldElement v .locationDemand) (sets noGenerics 1 hs))
 same-record h vs ws v gs hs no-more (one-more (one-more (one-more (one-more no-more)))) = refl
 
 abbrev parts : DemandHead → Parts OptionalLocationDemand Record
@@ -46,21 +46,21 @@ parts h = record {
   from = 1;
   out = λ o. heldElement o .locationDemand;
   made = demandFormat .finish h;
-  held = λ l gs. ofDemand (demandFrom h l gs);
+  held = λ l gs hs. ofDemand (demandFrom h l hs);
   same = same-record h;
 }
 
 -- each part, where it is read
 
 front-read : (c : tie.After-s) → let a = c .before .before .before .before .args in
-    Gives (part demandTable front false (a .skipping) noGenerics 0) (a .octets .now) (a .c) (placed (record { skipped = c .s .given .0 .0; generics = noGenerics }) (c .s .given .0 .1 .0))
-front-read c = empty-part _ _ false noGenerics 0 (by (c .before .before .skip-if .ensures) (ap asSkipped (c .s .given .1)))
+    Gives (part demandTable front false (a .skipping) 0) (a .octets .now) (a .c) (placed (record { skipped = c .s .given .0 .0; generics = noGenerics }) (c .s .given .0 .1 .0))
+front-read c = empty-part _ _ false 0 (by (c .before .before .skip-if .ensures) (ap asSkipped (c .s .given .1)))
 
 slot-read : (c : tie.After-w) → Gives (locationDemandSlot 3) (c .before .before .before .before .before .before .before .before .args .octets .now) (c .before .before .before .before .s .given .0 .1 .0) (placed (c .before .before .read-location-demand-slot .result .location) (c .w .given .0 .0))
 slot-read c = verdict-to location-demand-slot-beside (c .before .before .read-location-demand-slot .ensures) (c .w .given .1)
 
 back-read : (c : tie.After-x) → let a = c .before .before .before .before .before .before .before .before .before .before .before .before .args in
-    Gives (part demandTable back true (a .skipping) noGenerics 1) (a .octets .now) (c .before .before .before .before .w .given .0 .0) (placed (c .before .before .scan-part .result .slots) (c .x .given .0 .0))
+    Gives (part demandTable back true (a .skipping) 1) (a .octets .now) (c .before .before .before .before .w .given .0 .0) (placed (c .before .before .scan-part .result .slots) (c .x .given .0 .0))
 back-read c = verdict-to slots-beside (c .before .before .scan-part .ensures) (c .x .given .1)
 
 skip-if-requires : tie.Need-skip-if-requires
@@ -81,7 +81,7 @@ refused-requires c κs = search needs
 returns : tie.Need-returns
 returns c =
     let a = c .before .before .before .before .before .before .args in
-    c .refused .ensures ∙ answer demandAnswer (no-front _ (a .skipping) (parts (a .head)) (empty-part-refused _ _ false noGenerics 0 (by-refusal (c .before .before .before .before .skip-if .ensures) (ap asSkipped (c .before .before .enum-told .given .1)) (c .before .refusal .ensures))))
+    c .refused .ensures ∙ answer demandAnswer (no-front _ (a .skipping) (parts (a .head)) (empty-part-refused _ _ false 0 (by-refusal (c .before .before .before .before .skip-if .ensures) (ap asSkipped (c .before .before .enum-told .given .1)) (c .before .refusal .ensures))))
 
 read-location-demand-slot-requires : tie.Need-read-location-demand-slot-requires
 read-location-demand-slot-requires c κs = search needs
@@ -134,9 +134,9 @@ returns-3 c =
     c .refused3 .ensures ∙ answer demandAnswer (no-back _ (a .skipping) (parts (a .head)) (front-read (c .before .before .before .before .before .before .before .before .before .before))
     (slot-read (c .before .before .before .before .before .before)) (verdict-refused slots-beside (c .before .before .before .before .scan-part .ensures) (numbered (c .before .before .enum-told3 .given .1) (c .before .refusal3 .ensures))))
 
-add-t32 : tie.Need-add-t32
+add-t30 : tie.Need-add-t30
 unfolding locationDemandSlot
-add-t32 c =
+add-t30 c =
     let most = whole (c .before .before .before .before .before) .holds .most in
     omega (arith, c .before .before .before .before .known-told3 .given)
 
@@ -169,6 +169,6 @@ read-elements-spec =
     refusal-requires-3
     refused-requires-3
     returns-3
-    add-t32
+    add-t30
     record-of-requires
     returns-4)
