@@ -49,6 +49,14 @@ module _ {G L : Type 0} (k : Groups G L) where
     size = length (optionBits (listBits k) (listHeld k l));
   }
 
+-- a list's count alone
+abbrev pub askedCount : ℕ → GroupsAsked
+askedCount n = record { fits = leb n 63; one = true; listed = true; size = entriesWidth }
+
+-- groups, and behind them others
+abbrev pub askedBoth : GroupsAsked → GroupsAsked → GroupsAsked
+askedBoth x y = record { fits = x .fits && y .fits; one = x .one && y .one; listed = x .listed && y .listed; size = x .size + y .size }
+
 -- those of a list that is absent, or present without entries; they are the same for each kind of group
 abbrev pub askedEmpty : Bool → GroupsAsked
 askedEmpty p = askedList downlinks (listAs downlinks p [])
@@ -110,8 +118,7 @@ module _ {G L : Type 0} (k : Groups G L) where
   none-asked = refl
 
   pub asked-more : (gs : List G) (i : ℕ) (d : G) {x y : GroupsAsked} → i < length gs → x ≡ askedEach k (take i gs) → y ≡ askedOf k (getD gs i d)
-      → _≡_ {A = GroupsAsked} (record { fits = x .fits && y .fits; one = x .one && y .one; listed = x .listed && y .listed; size = x .size + y .size })
-      (askedEach k (take (i + 1) gs))
+      → askedBoth x y ≡ askedEach k (take (i + 1) gs)
   asked-more gs i d h e f =
       rw (
         e,
@@ -125,7 +132,7 @@ module _ {G L : Type 0} (k : Groups G L) where
 
   -- the list, present and absent
   pub list-asked : (l : L) (n : ℕ) {x : GroupsAsked} → k .present l ≡ true → x ≡ askedEach k (take n (k .groups l)) → n ≡ min (k .count l) 63 → length (k .groups l) ≡ 63
-      → _≡_ {A = GroupsAsked} (record { fits = leb (k .count l) 63 && x .fits; one = x .one; listed = x .listed; size = 6 + x .size }) (askedList k l)
+      → askedBoth (askedCount (k .count l)) x ≡ askedList k l
   unfolding listFits listOne listListed listBits
   list-asked l n p e m h =
       rw (p, e, m, take-most (k .count l) 63 (k .groups l) h)

@@ -1,11 +1,11 @@
 // The address of a group (EN 300 392-2, clauses 16.10.22 and 16.10.27): the parts that its address type has.
 ghost use mathlib.Core.Path.{_≡_};
-ghost use Prim.Native.Nat.{_≤_, min};
+ghost use Prim.Native.Nat.{_+_, _≤_, min};
 ghost use lib.Dec.{ltb};
 ghost use Rattle.elements.specs.Numbers.{held, optionAll};
 ghost use Rattle.elements.specs.Groups.{addressFits, typeOf, uplinkForms, downlinkForms};
 ghost use Rattle.element_writers.specs.LocationAsked.{locationOf};
-ghost use Rattle.element_writers.specs.GroupsAsked.{addressHeld, addressSize, askedEmpty};
+ghost use Rattle.element_writers.specs.GroupsAsked.{addressHeld, addressSize, askedEmpty, askedCount, askedBoth};
 use crate::typed_pdu_fields::nested_size;
 use crate::typed_pdu_fields::width_if;
 use elements::group_address::GroupAddress;
@@ -64,6 +64,33 @@ pub struct GroupsAsked {
     pub size: usize,
 }
 
+impl GroupsAsked {
+    // The same of these groups, and behind them others.
+    pub(crate) fn and(self, others: GroupsAsked) -> GroupsAsked
+        requires { ⌜ self .size + others .size ≤ 5172 ⌝ }
+        ensures { λ r. ⌜ r ≡ askedBoth self others ⌝ }
+    {
+        GroupsAsked {
+            fits: self.fits & others.fits,
+            one: self.one & others.one,
+            listed: self.listed & others.listed,
+            size: self.size + others.size,
+        }
+    }
+}
+
+// The same of a list's count alone.
+pub(crate) fn count_asked(count: usize) -> GroupsAsked
+    ensures { λ r. ⌜ r ≡ askedCount count ⌝ }
+{
+    GroupsAsked {
+        fits: count <= 63,
+        one: true,
+        listed: true,
+        size: 6,
+    }
+}
+
 // The same of a list that is absent, or has no entries.
 pub(crate) fn no_groups(present: bool) -> GroupsAsked
     ensures { λ r. ⌜ (r ≡ askedEmpty present) × (r .size ≤ 6) ⌝ }
@@ -113,7 +140,7 @@ pub(crate) fn location_of(own: bool, listed: bool, a: GroupsAsked) -> LocationAs
 }
 
 // As many groups as a list has room for.
-pub(crate) fn at_most_63(count: usize) -> usize
+pub fn at_most_63(count: usize) -> usize
     ensures { λ r. ⌜ r ≡ min count 63 ⌝ }
 {
     if count < 63 { count } else { 63 }

@@ -15,6 +15,7 @@ use crate::group_address::address_fits;
 use crate::group_address::address_size;
 use crate::group_address::at_most_63;
 use crate::group_address::below_if;
+use crate::group_address::count_asked;
 use crate::group_address::no_groups;
 use crate::group_address::uplink_type;
 use crate::group_identity_attachment::kind_of;
@@ -125,13 +126,7 @@ fn ask_groups(groups: [GroupIdentityUplink; 63], count: usize) -> GroupsAsked
     let mut i: usize = 0;
     while i < count {
         let g = groups[i];
-        let a = asked_of(g);
-        asked = GroupsAsked {
-            fits: asked.fits & a.fits,
-            one: asked.one & a.one,
-            listed: asked.listed & a.listed,
-            size: asked.size + a.size,
-        };
+        asked = asked.and(asked_of(g));
         i += 1;
     }
     asked
@@ -144,13 +139,7 @@ pub fn ask_uplinks(list: OptionalUplinks) -> GroupsAsked
     let count = list.count;
     if list.present {
         let groups = list.groups;
-        let a = ask_groups(groups, at_most_63(count));
-        return GroupsAsked {
-            fits: (count <= 63) & a.fits,
-            one: a.one,
-            listed: a.listed,
-            size: 6 + a.size,
-        };
+        return count_asked(count).and(ask_groups(groups, at_most_63(count)));
     }
     no_groups(false)
 }

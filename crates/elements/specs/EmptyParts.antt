@@ -1,5 +1,5 @@
 -- A part of a table of which nothing stands here: before the closing M-bit, and before a listed element that is not the part's.
-use Prim.Native.Nat.{ℕ, zero, suc, _+_}
+use Prim.Native.Nat.{ℕ, zero, suc}
 use mathlib.Core.Path.{_≡_, refl, sym, ap, _∙_}
 use mathlib.Core.Bool.{Bool, true, false, cond, not}
 use mathlib.Core.Option.{none}
@@ -19,8 +19,7 @@ use Rattle.elements.specs.NumbersLaws.{never, both, neither}
 use Rattle.elements.specs.Table.{Look, outside, ends, opens, look, counted, closing, isListed}
 use Rattle.elements.specs.TableLaws.{ends-opens, Halts, at-end, at-stop, skip-halts, closing-ends, closing-local}
 use Rattle.elements.specs.Kinds.{Slot, identifierOf}
-use Rattle.elements.specs.Rows.{rowOf, isType4Row, fromType3, fromType4, genericIn, genericSlot, generics, noGeneric, noGenerics, part, elsewhere}
-use Rattle.elements.specs.declared.typed_pdu_fields.Generic.{Generic}
+use Rattle.elements.specs.Rows.{rowOf, isType4Row, genericIn, genericSlot, generics, noGeneric, noGenerics, part, elsewhere}
 use Rattle.elements.specs.declared.typed_pdu_fields.Row.{Row}
 use Rattle.elements.specs.declared.typed_pdu_fields.Slots.{Slots}
 

@@ -1,7 +1,7 @@
 // Group identity downlink (EN 300 392-2, clause 16.10.22).
 ghost use mathlib.Core.Path.{_≡_};
 ghost use mathlib.Core.Option.{none};
-ghost use Rattle.bits.specs.Placed.{at, refusal};
+ghost use Rattle.bits.specs.Placed.{at, refusal, halted};
 ghost use Rattle.bits.specs.Written.{next};
 ghost use Rattle.elements.specs.Groups.{downlink};
 ghost use Rattle.elements.specs.Lists.{downlinks, listOf};
@@ -89,6 +89,16 @@ pub fn no_downlinks() -> OptionalDownlinks
     }
 }
 
+// A refusal, and an absent list beside it.
+fn refused(n: u8) -> DownlinksRead
+    ensures { λ r. ⌜ r ≡ downlinksAnswer (halted n) ⌝ }
+{
+    DownlinksRead {
+        verdict: Moved::Refused(n),
+        list: no_downlinks(),
+    }
+}
+
 impl OptionalDownlinks {
     // The same, taken part by part: taken whole, what stands behind `present` is copied off its alignment.
     pub fn part_by_part(self) -> OptionalDownlinks
@@ -154,10 +164,7 @@ pub fn read_downlinks_slot(c: Cursor, octets: &[u8], there: bool, identifier: u8
     };
     let l = read_list_front(from, octets, there, identifier);
     let ListFrontRead::Read(front, first) = l else {
-        return DownlinksRead {
-            verdict: Moved::Refused(l.refusal()),
-            list: no_downlinks(),
-        };
+        return refused(l.refusal());
     };
     if (front.count == 0) & (front.len == 0) {
         let none = [ZERO; 63];
@@ -177,10 +184,7 @@ pub fn read_downlinks_slot(c: Cursor, octets: &[u8], there: bool, identifier: u8
     while i < front.count {
         let f = GroupIdentityDownlink::from_bitbuf(place, octets);
         let DownlinkRead::Read(g, next) = f else {
-            return DownlinksRead {
-                verdict: Moved::Refused(f.refusal()),
-                list: no_downlinks(),
-            };
+            return refused(f.refusal());
         };
         groups[i] = g;
         place = next;
@@ -198,8 +202,5 @@ pub fn read_downlinks_slot(c: Cursor, octets: &[u8], there: bool, identifier: u8
             },
         };
     }
-    DownlinksRead {
-        verdict: Moved::Refused(INCONSISTENT_LENGTH),
-        list: no_downlinks(),
-    }
+    refused(INCONSISTENT_LENGTH)
 }

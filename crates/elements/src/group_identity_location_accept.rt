@@ -1,7 +1,8 @@
 // Group identity location accept (EN 300 392-2, clause 16.10.23).
 ghost use mathlib.Core.Path.{_≡_};
-ghost use Rattle.bits.specs.Placed.{at};
+ghost use Rattle.bits.specs.Placed.{at, halted};
 ghost use Rattle.elements.specs.Locations.{locationAccept, noLocationAccept};
+ghost use Rattle.elements.specs.Kinds.{absentLocationAccept};
 ghost use Rattle.elements.specs.GroupAnswers.{locationAcceptAnswer, locationAcceptSlot, locationAcceptSlotAnswer};
 use crate::group_identity_downlink::OptionalDownlinks;
 use crate::group_identity_downlink::no_downlinks;
@@ -47,6 +48,29 @@ pub fn no_location_accept() -> GroupIdentityLocationAccept
     }
 }
 
+// A refusal, and nothing beside it.
+fn refused(n: u8) -> LocationAcceptRead
+    ensures { λ r. ⌜ r ≡ locationAcceptAnswer (halted n) ⌝ }
+{
+    LocationAcceptRead {
+        verdict: Moved::Refused(n),
+        location: no_location_accept(),
+    }
+}
+
+// The slot of an absent structure, or of one that is refused.
+fn absent(verdict: Moved) -> LocationAcceptSlot
+    ensures { λ r. ⌜ r ≡ record { verdict = verdict; location = absentLocationAccept } ⌝ }
+{
+    LocationAcceptSlot {
+        verdict: verdict,
+        location: OptionalLocationAccept {
+            present: false,
+            value: no_location_accept(),
+        },
+    }
+}
+
 impl OptionalLocationAccept {
     // The same, its list taken part by part.
     pub fn part_by_part(self) -> OptionalLocationAccept
@@ -72,39 +96,24 @@ impl GroupIdentityLocationAccept {
     {
         let f = c.read_u8(octets, 1);
         let Field8::Value(accept_reject, c1) = f else {
-            return LocationAcceptRead {
-                verdict: Moved::Refused(f.refusal()),
-                location: no_location_accept(),
-            };
+            return refused(f.refusal());
         };
         let p = c1.pass(octets, 1);
         let Moved::To(c2) = p else {
-            return LocationAcceptRead {
-                verdict: p,
-                location: no_location_accept(),
-            };
+            return refused(p.refusal());
         };
         let o = c2.read_u8(octets, 1);
         let Field8::Value(obit, c3) = o else {
-            return LocationAcceptRead {
-                verdict: Moved::Refused(o.refusal()),
-                location: no_location_accept(),
-            };
+            return refused(o.refusal());
         };
         let r = read_downlinks_slot(c3, octets, obit == 1, GROUP_IDENTITY_DOWNLINK);
         let v = r.verdict;
         let Moved::To(c4) = v else {
-            return LocationAcceptRead {
-                verdict: v,
-                location: no_location_accept(),
-            };
+            return refused(v.refusal());
         };
         let e = read_empty_table(c4, octets, obit == 1);
         let Moved::To(c5) = e else {
-            return LocationAcceptRead {
-                verdict: e,
-                location: no_location_accept(),
-            };
+            return refused(e.refusal());
         };
         let start = c.at;
         let end = c5.at;
@@ -118,10 +127,7 @@ impl GroupIdentityLocationAccept {
                 },
             };
         }
-        LocationAcceptRead {
-            verdict: Moved::Refused(INCONSISTENT_LENGTH),
-            location: no_location_accept(),
-        }
+        refused(INCONSISTENT_LENGTH)
     }
 }
 
@@ -131,36 +137,18 @@ pub fn read_location_accept_slot(c: Cursor, octets: &[u8], identifier: u8) -> Lo
 {
     let l = peek_type34_mbit_and_id(c, octets);
     let OptionalU8Read::Read(id, c1) = l else {
-        return LocationAcceptSlot {
-            verdict: Moved::Refused(l.refusal()),
-            location: OptionalLocationAccept {
-                present: false,
-                value: no_location_accept(),
-            },
-        };
+        return absent(Moved::Refused(l.refusal()));
     };
     if id.present {
         if id.value == identifier {
             let f = c1.read(octets, 11);
             let Field::Value(len, c2) = f else {
-                return LocationAcceptSlot {
-                    verdict: Moved::Refused(f.refusal()),
-                    location: OptionalLocationAccept {
-                        present: false,
-                        value: no_location_accept(),
-                    },
-                };
+                return absent(Moved::Refused(f.refusal()));
             };
             let r = GroupIdentityLocationAccept::from_bitbuf(c2, octets, len as usize);
             let v = r.verdict;
             let Moved::To(c3) = v else {
-                return LocationAcceptSlot {
-                    verdict: v,
-                    location: OptionalLocationAccept {
-                        present: false,
-                        value: no_location_accept(),
-                    },
-                };
+                return absent(v);
             };
             let location = r.location;
             return LocationAcceptSlot {
@@ -172,11 +160,5 @@ pub fn read_location_accept_slot(c: Cursor, octets: &[u8], identifier: u8) -> Lo
             };
         }
     }
-    LocationAcceptSlot {
-        verdict: Moved::To(c),
-        location: OptionalLocationAccept {
-            present: false,
-            value: no_location_accept(),
-        },
-    }
+    absent(Moved::To(c))
 }

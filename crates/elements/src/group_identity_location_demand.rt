@@ -1,7 +1,8 @@
 // Group identity location demand (EN 300 392-2, clause 16.10.24).
 ghost use mathlib.Core.Path.{_≡_};
-ghost use Rattle.bits.specs.Placed.{at};
+ghost use Rattle.bits.specs.Placed.{at, halted};
 ghost use Rattle.elements.specs.Locations.{locationDemand, noLocationDemand};
+ghost use Rattle.elements.specs.Kinds.{absentLocationDemand};
 ghost use Rattle.elements.specs.GroupAnswers.{locationDemandAnswer, locationDemandSlot, locationDemandSlotAnswer};
 use crate::group_identity_uplink::OptionalUplinks;
 use crate::group_identity_uplink::no_uplinks;
@@ -48,6 +49,29 @@ pub fn no_location_demand() -> GroupIdentityLocationDemand
     }
 }
 
+// A refusal, and nothing beside it.
+fn refused(n: u8) -> LocationDemandRead
+    ensures { λ r. ⌜ r ≡ locationDemandAnswer (halted n) ⌝ }
+{
+    LocationDemandRead {
+        verdict: Moved::Refused(n),
+        location: no_location_demand(),
+    }
+}
+
+// The slot of an absent structure, or of one that is refused.
+fn absent(verdict: Moved) -> LocationDemandSlot
+    ensures { λ r. ⌜ r ≡ record { verdict = verdict; location = absentLocationDemand } ⌝ }
+{
+    LocationDemandSlot {
+        verdict: verdict,
+        location: OptionalLocationDemand {
+            present: false,
+            value: no_location_demand(),
+        },
+    }
+}
+
 impl OptionalLocationDemand {
     // The same, its list taken part by part.
     pub fn part_by_part(self) -> OptionalLocationDemand
@@ -73,45 +97,27 @@ impl GroupIdentityLocationDemand {
     {
         let f = c.read_u8(octets, 1);
         let Field8::Value(reserved, c1) = f else {
-            return LocationDemandRead {
-                verdict: Moved::Refused(f.refusal()),
-                location: no_location_demand(),
-            };
+            return refused(f.refusal());
         };
         if 0 < reserved {
-            return LocationDemandRead {
-                verdict: Moved::Refused(INVALID_VALUE),
-                location: no_location_demand(),
-            };
+            return refused(INVALID_VALUE);
         }
         let m = c1.read_u8(octets, 1);
         let Field8::Value(mode, c2) = m else {
-            return LocationDemandRead {
-                verdict: Moved::Refused(m.refusal()),
-                location: no_location_demand(),
-            };
+            return refused(m.refusal());
         };
         let o = c2.read_u8(octets, 1);
         let Field8::Value(obit, c3) = o else {
-            return LocationDemandRead {
-                verdict: Moved::Refused(o.refusal()),
-                location: no_location_demand(),
-            };
+            return refused(o.refusal());
         };
         let r = read_uplinks_slot(c3, octets, obit == 1, GROUP_IDENTITY_UPLINK);
         let v = r.verdict;
         let Moved::To(c4) = v else {
-            return LocationDemandRead {
-                verdict: v,
-                location: no_location_demand(),
-            };
+            return refused(v.refusal());
         };
         let e = read_empty_table(c4, octets, obit == 1);
         let Moved::To(c5) = e else {
-            return LocationDemandRead {
-                verdict: e,
-                location: no_location_demand(),
-            };
+            return refused(e.refusal());
         };
         let start = c.at;
         let end = c5.at;
@@ -125,10 +131,7 @@ impl GroupIdentityLocationDemand {
                 },
             };
         }
-        LocationDemandRead {
-            verdict: Moved::Refused(INCONSISTENT_LENGTH),
-            location: no_location_demand(),
-        }
+        refused(INCONSISTENT_LENGTH)
     }
 }
 
@@ -138,36 +141,18 @@ pub fn read_location_demand_slot(c: Cursor, octets: &[u8], identifier: u8) -> Lo
 {
     let l = peek_type34_mbit_and_id(c, octets);
     let OptionalU8Read::Read(id, c1) = l else {
-        return LocationDemandSlot {
-            verdict: Moved::Refused(l.refusal()),
-            location: OptionalLocationDemand {
-                present: false,
-                value: no_location_demand(),
-            },
-        };
+        return absent(Moved::Refused(l.refusal()));
     };
     if id.present {
         if id.value == identifier {
             let f = c1.read(octets, 11);
             let Field::Value(len, c2) = f else {
-                return LocationDemandSlot {
-                    verdict: Moved::Refused(f.refusal()),
-                    location: OptionalLocationDemand {
-                        present: false,
-                        value: no_location_demand(),
-                    },
-                };
+                return absent(Moved::Refused(f.refusal()));
             };
             let r = GroupIdentityLocationDemand::from_bitbuf(c2, octets, len as usize);
             let v = r.verdict;
             let Moved::To(c3) = v else {
-                return LocationDemandSlot {
-                    verdict: v,
-                    location: OptionalLocationDemand {
-                        present: false,
-                        value: no_location_demand(),
-                    },
-                };
+                return absent(v);
             };
             let location = r.location;
             return LocationDemandSlot {
@@ -179,11 +164,5 @@ pub fn read_location_demand_slot(c: Cursor, octets: &[u8], identifier: u8) -> Lo
             };
         }
     }
-    LocationDemandSlot {
-        verdict: Moved::To(c),
-        location: OptionalLocationDemand {
-            present: false,
-            value: no_location_demand(),
-        },
-    }
+    absent(Moved::To(c))
 }

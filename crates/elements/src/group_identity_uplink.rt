@@ -1,7 +1,7 @@
 // Group identity uplink (EN 300 392-2, clause 16.10.27).
 ghost use mathlib.Core.Path.{_≡_};
 ghost use mathlib.Core.Option.{none};
-ghost use Rattle.bits.specs.Placed.{at, refusal};
+ghost use Rattle.bits.specs.Placed.{at, refusal, halted};
 ghost use Rattle.elements.specs.Groups.{uplink};
 ghost use Rattle.elements.specs.Lists.{uplinks, listOf};
 ghost use Rattle.elements.specs.GroupAnswers.{asUplink, uplinksAnswer, nestedSlotIf};
@@ -84,6 +84,16 @@ pub fn no_uplinks() -> OptionalUplinks
     }
 }
 
+// A refusal, and an absent list beside it.
+fn refused(n: u8) -> UplinksRead
+    ensures { λ r. ⌜ r ≡ uplinksAnswer (halted n) ⌝ }
+{
+    UplinksRead {
+        verdict: Moved::Refused(n),
+        list: no_uplinks(),
+    }
+}
+
 impl OptionalUplinks {
     // The same, taken part by part: taken whole, what stands behind `present` is copied off its alignment.
     pub fn part_by_part(self) -> OptionalUplinks
@@ -148,10 +158,7 @@ pub fn read_uplinks_slot(c: Cursor, octets: &[u8], there: bool, identifier: u8) 
     };
     let l = read_list_front(from, octets, there, identifier);
     let ListFrontRead::Read(front, first) = l else {
-        return UplinksRead {
-            verdict: Moved::Refused(l.refusal()),
-            list: no_uplinks(),
-        };
+        return refused(l.refusal());
     };
     if (front.count == 0) & (front.len == 0) {
         let none = [ZERO; 63];
@@ -171,10 +178,7 @@ pub fn read_uplinks_slot(c: Cursor, octets: &[u8], there: bool, identifier: u8) 
     while i < front.count {
         let f = GroupIdentityUplink::from_bitbuf(place, octets);
         let UplinkRead::Read(g, next) = f else {
-            return UplinksRead {
-                verdict: Moved::Refused(f.refusal()),
-                list: no_uplinks(),
-            };
+            return refused(f.refusal());
         };
         groups[i] = g;
         place = next;
@@ -192,8 +196,5 @@ pub fn read_uplinks_slot(c: Cursor, octets: &[u8], there: bool, identifier: u8) 
             },
         };
     }
-    UplinksRead {
-        verdict: Moved::Refused(INCONSISTENT_LENGTH),
-        list: no_uplinks(),
-    }
+    refused(INCONSISTENT_LENGTH)
 }

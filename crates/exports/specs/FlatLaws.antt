@@ -4,7 +4,7 @@ use native.Mathlib.Nat.{mul-zero, mul-suc, add-comm}
 use native.Mathlib.Omega.{arith}
 use mathlib.Core.Path.{_≡_, refl, sym, ap, _∙_}
 use mathlib.Core.Bool.{Bool, true, false, cond}
-use mathlib.Core.List.{List, [], _∷_, _++_, append-nil}
+use mathlib.Core.List.{List, [], _∷_, _++_}
 use lib.ListN.{length, length-append, length-take, set, take, drop, getD}
 use lib.Seq.{sets, length-sets, drop-cons}
 use Rattle.elements.specs.Lists.{each}
@@ -70,14 +70,6 @@ pub shown-put : {G : Type 0} (flat : G → List ℕ) (b : Bool) (n : ℕ) (gs : 
 unfolding each
 shown-put flat true n gs i l e p q = p ⨟ (rw (e, take-most n 63 gs l) at q)
 shown-put flat false n gs i l e p q = p ⨟ (rw e at q)
-
--- what is put where the test holds
-module _ {f g : List ℕ} {at to : ℕ} {ys : List ℕ} (p : Put f at ys g to) (b : Bool) (xs : List ℕ) where
-  pub put-if : {h : List ℕ} {end : ℕ} → b ≡ true → Put g to xs h end → Put f at (ys ++ cond b xs []) h end
-  put-if e q = rw e (p ⨟ q)
-
-  pub put-not : b ≡ false → Put f at (ys ++ cond b xs []) g to
-  put-not e = rw (e, append-nil ys) p
 
 -- ## how long a list is
 

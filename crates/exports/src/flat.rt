@@ -2,14 +2,14 @@
 // is absent keeps its place, all zeros. Each function puts its part from `at` on and gives the place behind it.
 ghost use mathlib.Core.Path.{_≡_};
 ghost use mathlib.Core.Bool.{cond};
-ghost use Prim.Native.Nat.{_+_, _*_, _≤_, min};
+ghost use Prim.Native.Nat.{_+_, _*_, _≤_};
 ghost use mathlib.Core.List.{[], _∷_};
-ghost use lib.ListN.{length, take};
+ghost use lib.ListN.{length};
 ghost use Rattle.bits.specs.Bits.{bit};
 ghost use lib.Seq.{sets};
-ghost use Rattle.elements.specs.Lists.{each};
-ghost use Rattle.exports.specs.Flat.{highFirst, flatField, flatFields, flatType3, flatType4, flatClass, flatSaving, flatAddress, flatAttachment, flatUplink, flatDownlink, flatUplinks, flatDownlinks, flatLocationDemand, flatLocationAccept, flatDemandHead, flatDemandOptions, flatDemandGenerics, flatDemand, flatAcceptHead, flatAcceptFront, flatAcceptGenerics, flatAccept, flatAttachDetachHead, flatAttachDetach, shown, shownUplinks, shownDownlinks};
+ghost use Rattle.exports.specs.Flat.{highFirst, flatField, flatFields, flatType3, flatType4, flatClass, flatSaving, flatAddress, flatAttachment, flatUplink, flatDownlink, flatDownlinks, flatLocationDemand, flatLocationAccept, flatDemandHead, flatDemandOptions, flatDemandGenerics, flatDemand, flatAcceptHead, flatAcceptFront, flatAcceptGenerics, flatAccept, flatAttachDetachHead, flatAttachDetach, shown, shownUplinks, shownDownlinks};
 ghost use Rattle.exports.specs.FlatLaws.{Put};
+use element_writers::group_address::at_most_63;
 use elements::class_of_ms::OptionalClassOfMs;
 use elements::energy_saving_information::OptionalEnergySavingInformation;
 use elements::group_identity_attachment::GroupIdentityAttachment;
@@ -23,26 +23,15 @@ use elements::typed_pdu_fields::OptionalType3;
 use elements::typed_pdu_fields::OptionalType4;
 use elements::typed_pdu_fields::OptionalU8;
 use elements::typed_pdu_fields::OptionalU64;
+use message_writers::parts::flag;
 use messages::d_attach_detach_group_identity::DAttachDetachGroupIdentity;
 use messages::d_location_update_accept::DLocationUpdateAccept;
 use messages::u_location_update_demand::ULocationUpdateDemand;
-
-fn flag(present: bool) -> u8
-    ensures { λ r. ⌜ r ≡ bit present ⌝ }
-{
-    if present { 1 } else { 0 }
-}
 
 fn kept(present: bool, value: u64) -> u64
     ensures { λ r. ⌜ r ≡ cond present value 0 ⌝ }
 {
     if present { value } else { 0 }
-}
-
-fn at_most_63(n: usize) -> usize
-    ensures { λ r. ⌜ r ≡ min n 63 ⌝ }
-{
-    if n < 63 { n } else { 63 }
 }
 
 // The octets of a number, high first.

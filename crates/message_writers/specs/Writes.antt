@@ -5,7 +5,7 @@ use mathlib.Core.Bool.{true}
 use mathlib.Core.List.{List}
 use lib.ListN.{length}
 use Rattle.bits.specs.Bits.{Bits}
-use Rattle.bits.specs.Placed.{left}
+use Rattle.bits.specs.Placed.{Placed, placed, halted, left}
 use Rattle.bits.specs.Written.{Written, write, unwritten}
 use Rattle.bits.specs.declared.bitbuffer.Cursor.{Cursor}
 use Rattle.messages.specs.Questions.{Asked, firstNo}
@@ -18,6 +18,11 @@ writtenBy (suc n) xs os c = unwritten (suc n) os
 -- A MESSAGE WRITTEN: the first question that is answered with no refuses it; else its bits stand at the cursor
 unfoldable pub writeMessage : Asked → Bits → List ℕ → Cursor → Written
 writeMessage a xs os c = writtenBy (firstNo a (length xs) (left (length os) c)) xs os c
+
+-- where its first bit stands; nowhere behind a refusal
+abbrev pub begun : ℕ → Cursor → Placed Unit
+begun zero c = placed tt c
+begun (suc n) c = halted (suc n)
 
 abbrev pub asAsked : Answers → Asked
 asAsked r = record {

@@ -5,14 +5,15 @@ use mathlib.Core.Path.{_≡_, refl, sym, ap, _∙_}
 use mathlib.Core.Bool.{Bool, true, false, cond, _&&_, and-assoc}
 use mathlib.Core.List.{List, [], _∷_, _++_}
 use lib.ListN.{length, length-append}
-use lib.Dec.{leb}
-use borrow.Author.Tests.{le-leb}
+use borrow.Author.Tests.{le-leb, ne-eqb}
 use Rattle.bits.specs.Bits.{Bits, bit}
-use Rattle.bits.specs.Placed.{placed, halted, left}
-use Rattle.bits.specs.Written.{Written, written, roomFor, joined}
+use Rattle.bits.specs.Placed.{asPlace, left}
+use Rattle.bits.specs.PlacedLaws.{halted-placed}
+use Rattle.bits.specs.Written.{Written, written, joined}
 use Rattle.bits.specs.WrittenLaws.{Octets}
 use Rattle.bits.specs.PutsLaws.{Puts, all-put}
 use Rattle.bits.specs.declared.bitbuffer.Cursor.{Cursor}
+use Rattle.bits.specs.declared.bitbuffer.Place.{Place}
 use Rattle.elements.specs.Numbers.{isPresent, held, optionBits, optionMap}
 use Rattle.elements.specs.Generics.{type3Bits}
 use Rattle.elements.specs.TableWritten.{elementBits, slotBits}
@@ -22,7 +23,7 @@ use Rattle.elements.specs.declared.typed_pdu_fields.OptionalType4.{OptionalType
 use Rattle.element_writers.specs.WrittenElements.{optionalBits, element-length}
 use Rattle.messages.specs.Questions.{Asked, allOf, firstNo}
 use Rattle.messages.specs.RoundTrip.{Passed, passed}
-use Rattle.message_writers.specs.Writes.{writtenBy, writeMessage, asAsked, Answered}
+use Rattle.message_writers.specs.Writes.{writtenBy, writeMessage, begun, asAsked, Answered}
 use Rattle.message_writers.specs.declared.questions.Answers.{Answers}
 
 -- ## the questions
@@ -36,32 +37,40 @@ first-is {a} {xs} {r} q room = ap (λ (b : Asked). firstNo b (r .size) room) (q 
     go true f false t = rw t
     go false f t e = rw f
 
--- k is the number of the first question that is answered with no, of a message at a cursor
-pub record Asking (a : Asked) (xs : Bits) (os : List ℕ) (c : Cursor) (k : ℕ) : Type 0 where
-  pub number : k ≡ firstNo a (length xs) (left (length os) c)
+-- a message begins at a cursor where it passes the questions
+pub record Asking (a : Asked) (xs : Bits) (os : List ℕ) (c : Cursor) (p : Place) : Type 0 where
+  pub begins : asPlace p ≡ begun (firstNo a (length xs) (left (length os) c)) c
 
--- by the answers, b being whether there is room
-pub asking : {a : Asked} {xs : Bits} {r : Answers} → Answered a xs r → (os : List ℕ) (c : Cursor) {b : Bool} {k : ℕ} → b ≡ roomFor (r .size) (length os) (placed tt c)
-    → ((n m : ℕ) → b ≡ leb n m → k ≡ firstNo (asAsked r) n m) → Asking a xs os c k
-asking {a} {xs} {r} q os c room first = record { number = first (r .size) (left (length os) c) room ∙ first-is q (left (length os) c) }
+-- by the answers
+pub asking : {a : Asked} {xs : Bits} {r : Answers} → Answered a xs r → (os : List ℕ) (c : Cursor) (p : Place)
+    → asPlace p ≡ begun (firstNo (asAsked r) (r .size) (left (length os) c)) c → Asking a xs os c p
+asking q os c p e = record { begins = e ∙ ap (λ (n : ℕ). begun n c) (first-is q (left (length os) c)) }
 
-module _ {a : Asked} {xs : Bits} {os : List ℕ} {c : Cursor} {k : ℕ} (q : Asking a xs os c k) where
-  pub all-passed : k ≡ 0 → Passed a (length xs) (left (length os) c)
-  all-passed z = passed a (length xs) (left (length os) c) (sym (q .number) ∙ z)
+module _ {a : Asked} {xs : Bits} {os : List ℕ} {c : Cursor} {p : Place} (q : Asking a xs os c p) where
+  none-refused : p .halt ≡ 0 → firstNo a (length xs) (left (length os) c) ≡ 0
+  none-refused z = go (firstNo a (length xs) (left (length os) c)) (q .begins)
+    where
+      go : (n : ℕ) → asPlace p ≡ begun n c → n ≡ 0
+      go zero e = refl
+      go (suc n) e = halted-placed (sym (rw z at e))
+
+  pub all-passed : p .halt ≡ 0 → Passed a (length xs) (left (length os) c)
+  all-passed z = passed a (length xs) (left (length os) c) (none-refused z)
 
   -- THE MESSAGE IS WRITTEN, in parts
-  pub message-written : {xss : List Bits} {v : Written} → Octets os → k ≡ 0 → joined xss ≡ xs → Puts xss (written os (placed tt c)) v
+  pub message-written : {xss : List Bits} {v : Written} → Octets os → p .halt ≡ 0 → joined xss ≡ xs → Puts xss (written os (asPlace p)) v
       → v ≡ writeMessage a xs os c
   unfolding writeMessage
-  message-written o z e p = rw (sym (q .number) ∙ z) (all-put {b = true} xs o refl (sym (le-leb _ _ (all-passed z .enough))) refl e p)
+  message-written o z e w =
+      rw (none-refused z) (all-put {b = true} xs o refl (sym (le-leb _ _ (all-passed z .enough))) refl e (rw (q .begins, none-refused z) at w))
 
-  pub message-refused : (k ≡ 0 → ⊥) → written os (halted k) ≡ writeMessage a xs os c
+  pub message-refused : (p .halt ≡ 0 → ⊥) → written os (asPlace p) ≡ writeMessage a xs os c
   unfolding writeMessage
-  message-refused n = rw (← q .number) (go k refl)
+  message-refused n = rw (q .begins) (go (firstNo a (length xs) (left (length os) c)) (q .begins))
     where
-      go : (j : ℕ) → k ≡ j → written os (halted k) ≡ writtenBy k xs os c
-      go zero z = absurd (n z)
-      go (suc j) z = rw z
+      go : (j : ℕ) → asPlace p ≡ begun j c → written os (begun j c) ≡ writtenBy j xs os c
+      go zero e = halted-placed (rw (ne-eqb (p .halt) 0 n) at e)
+      go (suc j) e = refl
 
 pub bit-one : (b : Bool) → bit b ≡ 1 → b ≡ true
 bit-one true e = refl

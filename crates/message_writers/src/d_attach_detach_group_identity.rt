@@ -123,13 +123,8 @@ pub fn to_bitbuf(d: DAttachDetachGroupIdentity, c: Cursor, octets: &mut [u8]) ->
     let list = d.group_identity_downlink;
     let a = ask_downlinks(list);
     let answers = ask(d, a);
-    let place = Place {
-        at: c.at,
-        end: c.end,
-        halt: 0,
-    };
-    let n = answers.first_no(place.has(octets.len(), answers.size));
-    if n == 0 {
+    let place = answers.start(c, octets.len());
+    if place.halt == 0 {
         let h = head_of(d);
         let m = place.put(octets, front(h));
         if h.obit == 1 {
@@ -139,5 +134,5 @@ pub fn to_bitbuf(d: DAttachDetachGroupIdentity, c: Cursor, octets: &mut [u8]) ->
         }
         return m;
     }
-    place.refuse(n)
+    place
 }

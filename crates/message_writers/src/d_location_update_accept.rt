@@ -250,13 +250,8 @@ pub fn to_bitbuf(d: DLocationUpdateAccept, c: Cursor, octets: &mut [u8]) -> Plac
     let location = d.group_identity_location_accept;
     let asked = ask_location_accept(location);
     let answers = ask(h, rest, location.present, asked, g);
-    let place = Place {
-        at: c.at,
-        end: c.end,
-        halt: 0,
-    };
-    let n = answers.first_no(place.has(octets.len(), answers.size));
-    if n == 0 {
+    let place = answers.start(c, octets.len());
+    if place.halt == 0 {
         let m = place.put(octets, front(h));
         if h.obit == 1 {
             let options = h.options;
@@ -265,5 +260,5 @@ pub fn to_bitbuf(d: DLocationUpdateAccept, c: Cursor, octets: &mut [u8]) -> Plac
         }
         return m;
     }
-    place.refuse(n)
+    place
 }

@@ -17,8 +17,8 @@ use element_writers::typed_pdu_fields::write_type3_generic;
 use elements::typed_pdu_fields::OptionalType3;
 use elements::typed_pdu_fields::OptionalU64;
 
-// An O-bit.
-pub(crate) fn flag(set: bool) -> u8
+// An O-bit, or whether a field is present.
+pub fn flag(set: bool) -> u8
     ensures { λ r. ⌜ r ≡ bit set ⌝ }
 {
     if set { 1 } else { 0 }

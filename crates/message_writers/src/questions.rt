@@ -2,8 +2,11 @@
 ghost use mathlib.Core.Path.{_≡_};
 ghost use Prim.Native.Nat.{ℕ};
 ghost use lib.Dec.{leb};
+ghost use Rattle.bits.specs.Placed.{asPlace, left};
 ghost use Rattle.messages.specs.Questions.{firstNo};
-ghost use Rattle.message_writers.specs.Writes.{asAsked};
+ghost use Rattle.message_writers.specs.Writes.{asAsked, begun};
+use bits::bitbuffer::Cursor;
+use bits::bitbuffer::Place;
 use bits::pdu_parse_error::ADDRESS_FORM_UNLISTED;
 use bits::pdu_parse_error::CIPHERING_MISMATCH;
 use bits::pdu_parse_error::FRAME_MISSING;
@@ -29,7 +32,7 @@ pub struct Answers {
 
 impl Answers {
     // The first question that is answered with no, 0 if there is none; `room` answers the last one.
-    pub fn first_no(self, room: bool) -> u8
+    fn first_no(self, room: bool) -> u8
         ensures { λ r. ⌜ ((n m : ℕ) → room ≡ leb n m → r ≡ firstNo (asAsked self) n m) ⌝ }
     {
         if self.fits {
@@ -60,5 +63,21 @@ impl Answers {
             return CIPHERING_MISMATCH;
         }
         VALUE_TOO_LARGE
+    }
+
+    // Where the message begins, in `len` octets: at the cursor, or nowhere if a question is answered with no.
+    pub fn start(self, c: Cursor, len: usize) -> Place
+        ensures { λ r. ⌜ asPlace r ≡ begun (firstNo (asAsked self) (self .size) (left len c)) c ⌝ }
+    {
+        let place = Place {
+            at: c.at,
+            end: c.end,
+            halt: 0,
+        };
+        let n = self.first_no(place.has(len, self.size));
+        if n == 0 {
+            return place;
+        }
+        place.refuse(n)
     }
 }

@@ -238,19 +238,14 @@ fn write_more(d: ULocationUpdateDemand, h: DemandHead, c: Cursor, octets: &mut [
     let location = d.group_identity_location_demand;
     let asked = ask_location_demand(location);
     let answers = ask(h, location.present, asked, g);
-    let place = Place {
-        at: c.at,
-        end: c.end,
-        halt: 0,
-    };
-    let n = answers.first_no(place.has(octets.len(), answers.size));
-    if n == 0 {
+    let place = answers.start(c, octets.len());
+    if place.halt == 0 {
         if location.present {
             return put_located(place, octets, h, location, asked, g);
         }
         return put_unlocated(place, octets, h, g);
     }
-    place.refuse(n)
+    place
 }
 
 // A message that ends with its O-bit.
@@ -269,16 +264,11 @@ fn write_alone(h: DemandHead, c: Cursor, octets: &mut [u8]) -> Place
         short: true,
         size: 10 + width_if(ciphering.present, 10),
     };
-    let place = Place {
-        at: c.at,
-        end: c.end,
-        halt: 0,
-    };
-    let n = answers.first_no(place.has(octets.len(), answers.size));
-    if n == 0 {
+    let place = answers.start(c, octets.len());
+    if place.halt == 0 {
         return place.put(octets, front(h));
     }
-    place.refuse(n)
+    place
 }
 
 // The message, if it passes the questions; a refusal changes nothing.

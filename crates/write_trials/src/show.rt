@@ -3,7 +3,6 @@ use libc::STDOUT_FILENO;
 use message_writers::write;
 use messages::Record;
 use messages::Verdict;
-use std::num::wrapping_add_u64;
 
 pub(crate) fn text(words: &[u8]) {
     io::write_all(STDOUT_FILENO, words);
@@ -11,21 +10,6 @@ pub(crate) fn text(words: &[u8]) {
 
 pub(crate) fn decimal(n: u64) {
     io::print_decimal(STDOUT_FILENO, n);
-}
-
-fn wide(octet: u8) -> u64 {
-    octet as u64
-}
-
-// One step of FNV-1a in 64 bits: times 2 to the 40 + 435.
-fn mixed(hash: u64, octet: u8) -> u64 {
-    let h = hash ^ wide(octet);
-    let a = wrapping_add_u64(h, h << 1);
-    let b = wrapping_add_u64(a, h << 4);
-    let c = wrapping_add_u64(b, h << 5);
-    let d = wrapping_add_u64(c, h << 7);
-    let e = wrapping_add_u64(d, h << 8);
-    wrapping_add_u64(e, h << 40)
 }
 
 // The octet so far behind a place; 0 behind the end.
@@ -38,30 +22,11 @@ fn octet_at(octets: &[u8], from: usize, i: usize) -> u8 {
     0
 }
 
-fn digest(octets: &[u8], from: usize, count: usize) -> u64 {
-    let mut hash: u64 = 0xcbf29ce484222325;
-    for i in 0..count {
-        hash = mixed(hash, octet_at(octets, from, i));
-    }
-    hash
-}
-
 fn hex(octets: &[u8], from: usize, count: usize) {
     for i in 0..count {
         text(b" ");
-        io::print_hex(STDOUT_FILENO, wide(octet_at(octets, from, i)), 2);
+        io::print_hex(STDOUT_FILENO, octet_at(octets, from, i) as u64, 2);
     }
-}
-
-// All of them, or the first 16 and a sum over all.
-fn touched(octets: &[u8], from: usize, count: usize) {
-    if count <= 32 {
-        hex(octets, from, count);
-        return;
-    }
-    hex(octets, from, 16);
-    text(b" .. ");
-    io::print_hex(STDOUT_FILENO, digest(octets, from, count), 16);
 }
 
 fn is_outside(i: usize, from: usize, to: usize) -> bool {
@@ -97,7 +62,7 @@ fn written(octets: &[u8], first: usize, bits: usize) {
     let count = bits / 8 + (first % 8 + bits % 8 + 7) / 8;
     decimal(bits as u64);
     text(b" bits:");
-    touched(octets, from, count);
+    hex(octets, from, count);
     end_line(is_kept(octets, from, from + count));
 }
 

@@ -3,7 +3,6 @@
 use std::collections::{BTreeMap, BTreeSet};
 use std::fmt::Write;
 
-use oracle::fnv1a;
 use tetra_mm::{FLAT_MAX, Message, Read, Record};
 
 use crate::check::Call;
@@ -268,4 +267,10 @@ fn things(read: &Read) -> BTreeSet<String> {
     things.extend(groups.map(|count| format!("{} groups", count.min(3))));
     things.insert(format!("{} skipped", read.skipped.min(4)));
     things
+}
+
+/// 64 bits wide.
+fn fnv1a(octets: &[u8]) -> u64 {
+    let step = |hash: u64, &octet: &u8| (hash ^ u64::from(octet)).wrapping_mul(0x100_0000_01b3);
+    octets.iter().fold(0xcbf2_9ce4_8422_2325, step)
 }

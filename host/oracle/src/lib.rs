@@ -206,12 +206,6 @@ pub fn window(octets: &[u8], first: usize, end: usize) -> Option<BitBuffer> {
     Some(buffer)
 }
 
-/// 64 bits wide.
-pub fn fnv1a(octets: &[u8]) -> u64 {
-    let step = |hash: u64, &octet: &u8| (hash ^ u64::from(octet)).wrapping_mul(0x100_0000_01b3);
-    octets.iter().fold(0xcbf2_9ce4_8422_2325, step)
-}
-
 fn call<T>(original: impl FnOnce() -> Result<T, PduParseErr>) -> Result<T, Fault> {
     panics::catch(original).map_err(Fault::Panic)?.map_err(Fault::Error)
 }

@@ -5,15 +5,11 @@ use std::fmt::Write;
 
 use crate::records::demand;
 use crate::written::{Trial, trials};
-use crate::{MAX_OCTETS, Message, Record, Refusal, Written, fnv1a, is_window, write};
+use crate::{MAX_OCTETS, Message, Record, Refusal, Written, is_window, write};
 
 /// The octets of a call that doesn't name its own.
 const OCTETS: usize = 512;
 const BITS: usize = 8 * OCTETS;
-
-/// More octets than these are printed as the first `SHOWN` and a sum over all.
-const MOST: usize = 32;
-const SHOWN: usize = 16;
 
 /// What the program write_trials prints: for each trial a line with the name, the bits and the octets
 /// from that of the window's first bit to that of the last one written, or the number of the refusal,
@@ -72,15 +68,10 @@ impl Lines {
         let (from, to) = (first / 8, (first + bits).div_ceil(8));
         let mut others = octets[..from].iter().chain(&octets[to..]);
         assert!(others.all(|&octet| octet == 0xff), "{name}");
-        let touched = &octets[from..to];
-        let (shown, sum) = if touched.len() > MOST {
-            (&touched[..SHOWN], format!(" .. {:016x}", fnv1a(touched)))
-        } else {
-            (touched, String::new())
-        };
-        let shown: Vec<String> = shown.iter().map(|octet| format!("{octet:02x}")).collect();
+        let shown: Vec<String> =
+            octets[from..to].iter().map(|octet| format!("{octet:02x}")).collect();
         let shown = shown.join(" ");
-        writeln!(self.0, "{name} | {bits} bits: {shown}{sum} | kept").expect("a string takes all");
+        writeln!(self.0, "{name} | {bits} bits: {shown} | kept").expect("a string takes all");
     }
 
     fn refused(&mut self, name: &str, number: Refusal) {

@@ -2,7 +2,7 @@
 -- at the front of the array, and that what is left to read is what was asked for; by the laws of a list's slot.
 use native.Mathlib.Omega.{arith}
 use Prim.Native.Nat.{_-_}
-use mathlib.Core.Path.{ap}
+use mathlib.Core.Path.{ap, _∙_}
 use borrow.Author.Needs.{needs}
 use Rattle.bits.specs.Placed.{placed}
 use Rattle.bits.specs.PlacedLaws.{Gives, by, by-refusal, Fact, fact}
@@ -42,13 +42,12 @@ enum-told c = search needs
 refusal-requires : tie.Need-refusal-requires Inv-loop μ-loop
 refusal-requires c κs = search needs
 
-no-downlinks-requires : tie.Need-no-downlinks-requires Inv-loop μ-loop
-no-downlinks-requires c κs = search needs
+refused-requires : tie.Need-refused-requires Inv-loop μ-loop
+refused-requires c κs = search needs
 
 returns : tie.Need-returns Inv-loop μ-loop
 returns c =
-    rw (c .no-downlinks .ensures)
-    (answer downlinksAnswer (no-front downlinks (c .before .before .before .before .before .before .args .identifier) (c .before .before .before .before .before .before .args .there) (by-refusal (c .before .before .before .before .read-list-front .ensures) (ap asListFront (c .before .before .enum-told .given .1)) (c .before .refusal .ensures))))
+    c .refused .ensures ∙ answer downlinksAnswer (no-front downlinks (c .before .before .before .before .before .before .args .identifier) (c .before .before .before .before .before .before .args .there) (by-refusal (c .before .before .before .before .read-list-front .ensures) (ap asListFront (c .before .before .enum-told .given .1)) (c .before .refusal .ensures)))
 
 returns-2 : tie.Need-returns-2 Inv-loop μ-loop
 returns-2 c = answer downlinksAnswer (list-none downlinks-sound _ _ (fronted (c .before .before .before .before)) (c .if1 .taken))
@@ -68,14 +67,13 @@ enum-told-2 c = search needs
 refusal-requires-2 : tie.Need-refusal-requires-2 Inv-loop μ-loop
 refusal-requires-2 c κs = search needs
 
-no-downlinks-requires-2 : tie.Need-no-downlinks-requires-2 Inv-loop μ-loop
-no-downlinks-requires-2 c κs = search needs
+refused-requires-2 : tie.Need-refused-requires-2 Inv-loop μ-loop
+refused-requires-2 c κs = search needs
 
 returns-3 : tie.Need-returns-3 Inv-loop μ-loop
 returns-3 c =
-    rw (c .no-downlinks2 .ensures)
-    (answer downlinksAnswer (group-refused downlinks-sound _ _ (fronted (c .before .before .before .before .before .before .before .before .before .before .before .before)) (c .before .before .before .before .before .before .before .loop .inv) (c .before .before .before .before .before .if2 .taken)
-    (by-refusal (c .before .before .before .before .from-bitbuf .ensures) (ap asDownlink (c .before .before .enum-told2 .given .1)) (c .before .refusal2 .ensures))))
+    c .refused2 .ensures ∙ answer downlinksAnswer (group-refused downlinks-sound _ _ (fronted (c .before .before .before .before .before .before .before .before .before .before .before .before)) (c .before .before .before .before .before .before .before .loop .inv) (c .before .before .before .before .before .if2 .taken)
+    (by-refusal (c .before .before .before .before .from-bitbuf .ensures) (ap asDownlink (c .before .before .enum-told2 .given .1)) (c .before .refusal2 .ensures)))
 
 mul-groups : tie.Need-mul-groups Inv-loop μ-loop
 mul-groups c =
@@ -104,13 +102,12 @@ returns-4 : tie.Need-returns-4 Inv-loop μ-loop
 returns-4 c =
     answer downlinksAnswer (list-whole downlinks-sound _ _ (fronted (c .before .before .before .before .before .before .before .before .before)) (c .before .before .before .before .loop .inv) (c .before .before .if2 .left) (c .if3 .taken))
 
-no-downlinks-requires-3 : tie.Need-no-downlinks-requires-3 Inv-loop μ-loop
-no-downlinks-requires-3 c κs = search needs
+refused-requires-3 : tie.Need-refused-requires-3 Inv-loop μ-loop
+refused-requires-3 c κs = search needs
 
 returns-5 : tie.Need-returns-5 Inv-loop μ-loop
 returns-5 c =
-    rw (c .no-downlinks3 .ensures)
-    (answer downlinksAnswer (list-inexact downlinks-sound _ _ (fronted (c .before .before .before .before .before .before .before .before .before .before)) (c .before .before .before .before .before .loop .inv) (c .before .before .before .if2 .left) (c .before .if3 .left)))
+    c .refused3 .ensures ∙ answer downlinksAnswer (list-inexact downlinks-sound _ _ (fronted (c .before .before .before .before .before .before .before .before .before .before)) (c .before .before .before .before .before .loop .inv) (c .before .before .before .if2 .left) (c .before .if3 .left))
 
 pub read-downlinks-slot-spec : {M : Type 1} → statement M
 read-downlinks-slot-spec =
@@ -122,7 +119,7 @@ read-downlinks-slot-spec =
     enum-known-l
     enum-told
     refusal-requires
-    no-downlinks-requires
+    refused-requires
     returns
     returns-2
     loop-holds
@@ -130,7 +127,7 @@ read-downlinks-slot-spec =
     enum-known-f
     enum-told-2
     refusal-requires-2
-    no-downlinks-requires-2
+    refused-requires-2
     returns-3
     mul-groups
     array-set-from-groups
@@ -139,5 +136,5 @@ read-downlinks-slot-spec =
     loop-again
     sub-if3
     returns-4
-    no-downlinks-requires-3
+    refused-requires-3
     returns-5)

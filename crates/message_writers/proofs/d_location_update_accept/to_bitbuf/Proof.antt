@@ -1,5 +1,4 @@
 -- `message_writers::d_location_update_accept::to_bitbuf` meets its contract. Assumes nothing.
-use Rattle.bits.specs.Written.{written}
 use mathlib.Core.Path.{refl, sym, ap, _∙_}
 use Rattle.bits.specs.PutsLaws.{field, _⨾_}
 use Rattle.messages.specs.declared.d_location_update_accept.AcceptHead.{AcceptHead}
@@ -10,11 +9,11 @@ use borrow.Author.Needs.{needs}
 use Rattle.message_writers.proofs.d_location_update_accept.to_bitbuf.Statement.{statement}
 use Rattle.message_writers.proofs.d_location_update_accept.to_bitbuf.Tie as tie
 
--- the number that the questions give
-abbrev asked : tie.After-first-no → Fact
+-- where the questions let it begin
+abbrev asked : tie.After-start → Fact
 asked v =
-    let a = v .before .before .before .before .before .before .before .before .before .args in
-    fact (asking (v .before .before .ask .ensures (a .d) (record { head = v .before .before .before .before .before .before .before .head-of .ensures; rest = v .before .before .before .before .before .before .rest-of .ensures; there = refl; asked = v .before .before .before .ask-location-accept .ensures .0; generics = v .before .before .before .before .before .generics-of .ensures })) (a .octets .now) (a .c) (v .before .has .ensures) (v .first-no .ensures))
+    let a = v .before .before .before .before .before .before .before .before .args in
+    fact (asking (v .before .ask .ensures (a .d) (record { head = v .before .before .before .before .before .before .head-of .ensures; rest = v .before .before .before .before .before .rest-of .ensures; there = refl; asked = v .before .before .ask-location-accept .ensures .0; generics = v .before .before .before .before .generics-of .ensures })) (a .octets .now) (a .c) (v .start .result) (v .start .ensures))
 
 head-of-requires : tie.Need-head-of-requires
 head-of-requires c κs = search needs
@@ -31,11 +30,8 @@ ask-location-accept-requires c κs = search needs
 ask-requires : tie.Need-ask-requires
 ask-requires c κs = search needs
 
-has-requires : tie.Need-has-requires
-has-requires c κs = search needs
-
-first-no-requires : tie.Need-first-no-requires
-first-no-requires c κs = search needs
+start-requires : tie.Need-start-requires
+start-requires c κs = search needs
 
 front-requires : tie.Need-front-requires
 front-requires c κs = search needs
@@ -45,7 +41,7 @@ put-requires c κs = search needs
 
 put-behind-requires : tie.Need-put-behind-requires
 put-behind-requires c κs =
-    rw (c .before .before .before .before .before .before .before .before .before .before .before .before .before .before .before .before .before .rest-of .ensures, c .before .before .before .before .before .before .before .before .before .before .before .before .before .before .before .before .generics-of .ensures) (accept-generics (c .before .before .before .before .before .before .before .before .before .before .before .before .before .before .before .before .before .before .before .before .args .d) (all-passed (asked (c .before .before .before .before .before .before .before .before .before .before .before) .holds) (c .before .before .before .before .before .before .before .before .before .before .if1 .taken) .fits))
+    rw (c .before .before .before .before .before .before .before .before .before .before .before .before .before .before .before .before .before .rest-of .ensures, c .before .before .before .before .before .before .before .before .before .before .before .before .before .before .before .before .generics-of .ensures) (accept-generics (c .before .before .before .before .before .before .before .before .before .before .before .before .before .before .before .before .before .before .before .before .args .d) (all-passed (asked (c .before .before .before .before .before .before .before .before .before .before .before .before) .holds) (c .before .before .before .before .before .before .before .before .before .before .if1 .taken) .fits))
 
 same-length : tie.Need-same-length
 same-length c = search needs
@@ -53,7 +49,7 @@ same-length c = search needs
 returns : tie.Need-returns
 returns c =
     let a = c .before .before .before .before .before .before .before .before .before .before .before .before .before .before .before .before .before .before .before .before .before .before .before .args in
-    let q = asked (c .before .before .before .before .before .before .before .before .before .before .before .before .before .before) .holds in
+    let q = asked (c .before .before .before .before .before .before .before .before .before .before .before .before .before .before .before) .holds in
     let h = ap (λ (x : AcceptHead). x .obit) (c .before .before .before .before .before .before .before .before .before .before .before .before .before .before .before .before .before .before .before .before .before .head-of .ensures) in
     message-written q (λ i. c .before .before .before .before .before .before .before .before .before .before .before .before .before .before .before .before .before .before .before .before .before .before .slice-known .given i .fits) (c .before .before .before .before .before .before .before .before .before .before .before .before .before .if1 .taken) (accept-in-parts (a .d) (c .before .before .before .before .before .before .before .before .before .before .before .before .before .before .before .before .before .ask-location-accept .ensures .0) (all-passed q (c .before .before .before .before .before .before .before .before .before .before .before .before .before .if1 .taken) .type3Only) .all (bit-one _ (sym h ∙ c .before .before .before .before .before .before .if2 .taken)))
     (field (rw (c .before .before .before .before .before .before .before .before .before .before .before .before .before .before .before .before .before .before .before .before .before .head-of .ensures) at (c .before .before .before .before .before .before .before .before .before .before .before .front .ensures)) (front-most (acceptHeadIn (a .d))) (c .before .before .before .before .before .before .before .before .before .before .put .ensures) ⨾ (rw (c .before .before .before .before .before .before .before .before .before .before .before .before .before .before .before .before .before .before .before .before .before .head-of .ensures, c .before .before .before .before .before .before .before .before .before .before .before .before .before .before .before .before .before .before .before .before .rest-of .ensures, c .before .before .before .before .before .before .before .before .before .before .before .before .before .before .before .before .before .before .before .generics-of .ensures) at (c .before .before .put-behind .ensures)))
@@ -64,17 +60,14 @@ same-length-2 c = search needs
 returns-2 : tie.Need-returns-2
 returns-2 c =
     let a = c .before .before .before .before .before .before .before .before .before .before .before .before .before .before .before .before .before .args in
-    let q = asked (c .before .before .before .before .before .before .before .before) .holds in
+    let q = asked (c .before .before .before .before .before .before .before .before .before) .holds in
     let h = ap (λ (x : AcceptHead). x .obit) (c .before .before .before .before .before .before .before .before .before .before .before .before .before .before .before .head-of .ensures) in
     message-written q (λ i. c .before .before .before .before .before .before .before .before .before .before .before .before .before .before .before .before .slice-known .given i .fits) (c .before .before .before .before .before .before .before .if1 .taken) (accept-in-parts (a .d) (c .before .before .before .before .before .before .before .before .before .before .before .ask-location-accept .ensures .0) (all-passed q (c .before .before .before .before .before .before .before .if1 .taken) .type3Only) .alone (bit-other _ (λ e. c .if2 .left (h ∙ e))))
     (field (rw (c .before .before .before .before .before .before .before .before .before .before .before .before .before .before .before .head-of .ensures) at (c .before .before .before .before .before .front .ensures)) (front-most (acceptHeadIn (a .d))) (c .before .before .before .before .put .ensures))
 
-refuse-requires : tie.Need-refuse-requires
-refuse-requires c κs = search needs
-
 returns-3 : tie.Need-returns-3
 returns-3 c =
-    ap (written (c .before .before .before .before .before .before .before .before .before .before .before .args .octets .now)) (c .refuse .ensures) ∙ message-refused (asked (c .before .before) .holds) (c .before .if1 .left)
+    message-refused (asked (c .before .before) .holds) (c .if1 .left)
 
 pub to-bitbuf-spec : {M : Type 1} → statement M
 to-bitbuf-spec =
@@ -85,8 +78,7 @@ to-bitbuf-spec =
     generics-of-requires
     ask-location-accept-requires
     ask-requires
-    has-requires
-    first-no-requires
+    start-requires
     front-requires
     put-requires
     put-behind-requires
@@ -94,5 +86,4 @@ to-bitbuf-spec =
     returns
     same-length-2
     returns-2
-    refuse-requires
     returns-3)

@@ -1,7 +1,6 @@
 -- `message_writers::u_location_update_demand::write_alone` meets its contract. Assumes nothing.
-use mathlib.Core.Path.{_≡_, refl, ap, _∙_}
+use mathlib.Core.Path.{_≡_, refl}
 use mathlib.Core.Bool.{false}
-use Rattle.bits.specs.Written.{written}
 use Rattle.bits.specs.PlacedLaws.{Fact, fact}
 use Rattle.bits.specs.PutsLaws.{field}
 use Rattle.messages.specs.Demand.{demandMore}
@@ -14,11 +13,11 @@ use Rattle.message_writers.proofs.u_location_update_demand.write_alone.
 }
 use Rattle.message_writers.proofs.u_location_update_demand.write_alone.Tie as tie
 
--- the number that the questions give
-abbrev asked : (v : tie.After-first-no) (d : ULocationUpdateDemand) → v .before .before .before .before .before .before .before .before .args .h ≡ demandHeadIn d → demandMore d ≡ false → Fact
+-- where the questions let it begin
+abbrev asked : (v : tie.After-start) (d : ULocationUpdateDemand) → v .before .before .before .before .before .before .before .args .h ≡ demandHeadIn d → demandMore d ≡ false → Fact
 asked v d e m =
-    let a = v .before .before .before .before .before .before .before .before .args in
-    fact (asking (rw (← v .before .before .before .before .before .head-fits .ensures, ← v .before .before .width-if .ensures .0) at (demand-alone-answered d (a .h) e m)) (a .octets .now) (a .c) (v .before .has .ensures) (v .first-no .ensures))
+    let a = v .before .before .before .before .before .before .before .args in
+    fact (asking (rw (← v .before .before .before .before .head-fits .ensures, ← v .before .width-if .ensures .0) at (demand-alone-answered d (a .h) e m)) (a .octets .now) (a .c) (v .start .result) (v .start .ensures))
 
 head-fits-requires : tie.Need-head-fits-requires
 head-fits-requires c κs = search needs
@@ -26,14 +25,11 @@ head-fits-requires c κs = search needs
 width-if-requires : tie.Need-width-if-requires
 width-if-requires c κs = search needs
 
-add-has : tie.Need-add-has
-add-has c = search needs
+add-t11 : tie.Need-add-t11
+add-t11 c = search needs
 
-has-requires : tie.Need-has-requires
-has-requires c κs = search needs
-
-first-no-requires : tie.Need-first-no-requires
-first-no-requires c κs = search needs
+start-requires : tie.Need-start-requires
+start-requires c κs = search needs
 
 front-requires : tie.Need-front-requires
 front-requires c κs = search needs
@@ -47,15 +43,12 @@ same-length c = search needs
 returns : tie.Need-returns
 returns c =
     λ d e m.
-    message-written (asked (c .before .before .before .before .before .before) d e m .holds) (λ i. c .before .before .before .before .before .before .before .before .before .before .before .before .before .slice-known .given i .fits) (c .before .before .before .before .before .if1 .taken) (demand-in-parts d refl .alone m) (field (rw e at (c .before .before .before .front .ensures)) (front-most (demandHeadIn d)) (c .before .before .put .ensures))
-
-refuse-requires : tie.Need-refuse-requires
-refuse-requires c κs = search needs
+    message-written (asked (c .before .before .before .before .before .before .before) d e m .holds) (λ i. c .before .before .before .before .before .before .before .before .before .before .before .before .before .slice-known .given i .fits) (c .before .before .before .before .before .if1 .taken) (demand-in-parts d refl .alone m) (field (rw e at (c .before .before .before .front .ensures)) (front-most (demandHeadIn d)) (c .before .before .put .ensures))
 
 returns-2 : tie.Need-returns-2
 returns-2 c =
     λ d e m.
-    ap (written (c .before .before .before .before .before .before .before .before .before .before .args .octets .now)) (c .refuse .ensures) ∙ message-refused (asked (c .before .before) d e m .holds) (c .before .if1 .left)
+    message-refused (asked (c .before .before) d e m .holds) (c .if1 .left)
 
 pub write-alone-spec : {M : Type 1} → statement M
 write-alone-spec =
@@ -63,12 +56,10 @@ write-alone-spec =
     (tie.spec
     head-fits-requires
     width-if-requires
-    add-has
-    has-requires
-    first-no-requires
+    add-t11
+    start-requires
     front-requires
     put-requires
     same-length
     returns
-    refuse-requires
     returns-2)

@@ -22,8 +22,8 @@ text-requires c κs = search needs
 octet-at-requires : tie.Need-octet-at-requires Inv-loop μ-loop
 octet-at-requires c κs = search needs
 
-wide-requires : tie.Need-wide-requires Inv-loop μ-loop
-wide-requires c κs = search needs
+cast-print-hex : tie.Need-cast-print-hex Inv-loop μ-loop
+cast-print-hex c = search needs
 
 print-hex-requires : tie.Need-print-hex-requires Inv-loop μ-loop
 print-hex-requires c κs = search needs
@@ -50,7 +50,7 @@ hex-spec =
     slice-aggregate-text
     text-requires
     octet-at-requires
-    wide-requires
+    cast-print-hex
     print-hex-requires
     add-i
     loop-less

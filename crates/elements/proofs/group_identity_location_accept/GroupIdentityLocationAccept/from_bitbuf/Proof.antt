@@ -1,7 +1,7 @@
 -- `elements::group_identity_location_accept::GroupIdentityLocationAccept::from_bitbuf` meets its contract: by the laws of a list inside a
 -- structure, and of a structure of a declared length.
 use borrow.Author.Needs.{needs}
-use mathlib.Core.Path.{ap}
+use mathlib.Core.Path.{ap, _∙_}
 use lib.Dec.{eqb}
 use Rattle.bits.specs.Reader.{got, _>>=_, field, word}
 use Rattle.bits.specs.ReaderLaws.{local·rules, local-tail}
@@ -14,7 +14,7 @@ use Rattle.elements.specs.ListsLaws.{downlinks-sound}
 use Rattle.elements.specs.Locations.{nested, groupIdentityDownlink, acceptBody, locationAccept}
 use Rattle.elements.specs.LocationsLaws.{acceptOf, accept-laws}
 use Rattle.elements.specs.GroupAnswers.{nestedSlotIf, locationAcceptAnswer}
-use Rattle.elements.specs.Verdicts.{answer, downlinks-beside, verdict-to, verdict-refused}
+use Rattle.elements.specs.Verdicts.{answer, downlinks-beside, verdict-to, verdict-refused, numbered}
 use Rattle.elements.specs.PlacedLocations.{list-unannounced, list-refused, list-unclosed, list-closed, structure-refused, structure-on, structure-whole, structure-inexact}
 use Rattle.elements.specs.declared.group_identity_location_accept.GroupIdentityLocationAccept.{GroupIdentityLocationAccept}
 use Rattle.elements.proofs.group_identity_location_accept.GroupIdentityLocationAccept.from_bitbuf.Statement.{statement}
@@ -58,14 +58,13 @@ enum-told c = search needs
 refusal-requires : tie.Need-refusal-requires
 refusal-requires c κs = search needs
 
-no-location-accept-requires : tie.Need-no-location-accept-requires
-no-location-accept-requires c κs = search needs
+refused-requires : tie.Need-refused-requires
+refused-requires c κs = search needs
 
 returns : tie.Need-returns
 unfolding word acceptBody locationAccept
 returns c =
-    rw (c .no-location-accept .ensures)
-    (answer locationAcceptAnswer (exact-stop (c .before .before .before .before .before .before .args .len) (stop _ (by-refusal (c .before .before .before .before .read-u8 .ensures) (ap asField8 (c .before .before .enum-told .given .1)) (c .before .refusal .ensures)))))
+    c .refused .ensures ∙ answer locationAcceptAnswer (exact-stop (c .before .before .before .before .before .before .args .len) (stop _ (by-refusal (c .before .before .before .before .read-u8 .ensures) (ap asField8 (c .before .before .enum-told .given .1)) (c .before .refusal .ensures))))
 
 pass-requires : tie.Need-pass-requires
 pass-requires c κs = search needs
@@ -76,14 +75,16 @@ enum-known-p c = search needs
 enum-told-2 : tie.Need-enum-told-2
 enum-told-2 c = search needs
 
-no-location-accept-requires-2 : tie.Need-no-location-accept-requires-2
-no-location-accept-requires-2 c κs = search needs
+refusal-requires-2 : tie.Need-refusal-requires-2
+refusal-requires-2 c κs = search needs
+
+refused-requires-2 : tie.Need-refused-requires-2
+refused-requires-2 c κs = search needs
 
 returns-2 : tie.Need-returns-2
 unfolding acceptBody locationAccept
 returns-2 c =
-    rw (c .before .enum-told2 .given .1, c .no-location-accept2 .ensures)
-    (answer locationAcceptAnswer (exact-stop (c .before .before .before .before .before .before .before .before .before .args .len) (step _ (answered (c .before .before .before .before .before)) (search local·rules) (stop _ (by (c .before .before .before .pass .ensures) (ap asMoved (c .before .enum-told2 .given .1)))))))
+    c .refused2 .ensures ∙ answer locationAcceptAnswer (exact-stop (c .before .before .before .before .before .before .before .before .before .before .args .len) (step _ (answered (c .before .before .before .before .before .before)) (search local·rules) (stop _ (by-refusal (c .before .before .before .before .pass .ensures) (ap asMoved (c .before .before .enum-told2 .given .1)) (c .before .refusal2 .ensures)))))
 
 read-u8-requires-2 : tie.Need-read-u8-requires-2
 read-u8-requires-2 c κs = search needs
@@ -94,18 +95,17 @@ enum-known-o c = search needs
 enum-told-3 : tie.Need-enum-told-3
 enum-told-3 c = search needs
 
-refusal-requires-2 : tie.Need-refusal-requires-2
-refusal-requires-2 c κs = search needs
+refusal-requires-3 : tie.Need-refusal-requires-3
+refusal-requires-3 c κs = search needs
 
-no-location-accept-requires-3 : tie.Need-no-location-accept-requires-3
-no-location-accept-requires-3 c κs = search needs
+refused-requires-3 : tie.Need-refused-requires-3
+refused-requires-3 c κs = search needs
 
 returns-3 : tie.Need-returns-3
 unfolding word locationAccept
 returns-3 c =
-    rw (c .no-location-accept3 .ensures)
-    (answer locationAcceptAnswer (structure-refused downlinks-sound groupIdentityDownlink _ (local-tail (accept-laws .body-local)) (list-behind (c .before .before .before .before .before .before)) (c .before .before .before .before .before .before .before .before .before .before .before .before .before .before .args .len)
-    (list-unannounced downlinks-sound _ (by-refusal (c .before .before .before .before .read-u82 .ensures) (ap asField8 (c .before .before .enum-told3 .given .1)) (c .before .refusal2 .ensures)))))
+    c .refused3 .ensures ∙ answer locationAcceptAnswer (structure-refused downlinks-sound groupIdentityDownlink _ (local-tail (accept-laws .body-local)) (list-behind (c .before .before .before .before .before .before)) (c .before .before .before .before .before .before .before .before .before .before .before .before .before .before .args .len)
+    (list-unannounced downlinks-sound _ (by-refusal (c .before .before .before .before .read-u82 .ensures) (ap asField8 (c .before .before .enum-told3 .given .1)) (c .before .refusal3 .ensures))))
 
 read-downlinks-slot-requires : tie.Need-read-downlinks-slot-requires
 read-downlinks-slot-requires c κs = search needs
@@ -116,15 +116,17 @@ enum-known-v c = search needs
 enum-told-4 : tie.Need-enum-told-4
 enum-told-4 c = search needs
 
-no-location-accept-requires-4 : tie.Need-no-location-accept-requires-4
-no-location-accept-requires-4 c κs = search needs
+refusal-requires-4 : tie.Need-refusal-requires-4
+refusal-requires-4 c κs = search needs
+
+refused-requires-4 : tie.Need-refused-requires-4
+refused-requires-4 c κs = search needs
 
 returns-4 : tie.Need-returns-4
 unfolding locationAccept
 returns-4 c =
-    rw (c .before .enum-told4 .given .1, c .no-location-accept4 .ensures)
-    (answer locationAcceptAnswer (structure-refused downlinks-sound groupIdentityDownlink _ (local-tail (accept-laws .body-local)) (list-behind (c .before .before .before .before .before .before .before .before .before)) (c .before .before .before .before .before .before .before .before .before .before .before .before .before .before .before .before .before .args .len)
-    (list-refused downlinks-sound _ (announced (c .before .before .before .before .before)) (verdict-refused downlinks-beside (c .before .before .before .read-downlinks-slot .ensures) (c .before .enum-told4 .given .1)))))
+    c .refused4 .ensures ∙ answer locationAcceptAnswer (structure-refused downlinks-sound groupIdentityDownlink _ (local-tail (accept-laws .body-local)) (list-behind (c .before .before .before .before .before .before .before .before .before .before)) (c .before .before .before .before .before .before .before .before .before .before .before .before .before .before .before .before .before .before .args .len)
+    (list-refused downlinks-sound _ (announced (c .before .before .before .before .before .before)) (verdict-refused downlinks-beside (c .before .before .before .before .read-downlinks-slot .ensures) (numbered (c .before .before .enum-told4 .given .1) (c .before .refusal4 .ensures)))))
 
 read-empty-table-requires : tie.Need-read-empty-table-requires
 read-empty-table-requires c κs = search needs
@@ -135,15 +137,17 @@ enum-known-e c = search needs
 enum-told-5 : tie.Need-enum-told-5
 enum-told-5 c = search needs
 
-no-location-accept-requires-5 : tie.Need-no-location-accept-requires-5
-no-location-accept-requires-5 c κs = search needs
+refusal-requires-5 : tie.Need-refusal-requires-5
+refusal-requires-5 c κs = search needs
+
+refused-requires-5 : tie.Need-refused-requires-5
+refused-requires-5 c κs = search needs
 
 returns-5 : tie.Need-returns-5
 unfolding locationAccept
 returns-5 c =
-    rw (c .before .enum-told5 .given .1, c .no-location-accept5 .ensures)
-    (answer locationAcceptAnswer (structure-refused downlinks-sound groupIdentityDownlink _ (local-tail (accept-laws .body-local)) (list-behind (c .before .before .before .before .before .before .before .before .before .before .before .before .before)) (c .before .before .before .before .before .before .before .before .before .before .before .before .before .before .before .before .before .before .before .before .before .args .len)
-    (list-unclosed downlinks-sound _ (announced (c .before .before .before .before .before .before .before .before .before)) (listed (c .before .before .before .before .before)) (by (c .before .before .before .read-empty-table .ensures) (ap asMoved (c .before .enum-told5 .given .1))))))
+    c .refused5 .ensures ∙ answer locationAcceptAnswer (structure-refused downlinks-sound groupIdentityDownlink _ (local-tail (accept-laws .body-local)) (list-behind (c .before .before .before .before .before .before .before .before .before .before .before .before .before .before)) (c .before .before .before .before .before .before .before .before .before .before .before .before .before .before .before .before .before .before .before .before .before .before .args .len)
+    (list-unclosed downlinks-sound _ (announced (c .before .before .before .before .before .before .before .before .before .before)) (listed (c .before .before .before .before .before .before)) (by-refusal (c .before .before .before .before .read-empty-table .ensures) (ap asMoved (c .before .before .enum-told5 .given .1)) (c .before .refusal5 .ensures))))
 
 sub-if1 : tie.Need-sub-if1
 sub-if1 c =
@@ -158,14 +162,13 @@ returns-6 c =
     rw (c .part-by-part .ensures)
     (answer locationAcceptAnswer (structure-whole downlinks-sound groupIdentityDownlink _ (local-tail (accept-laws .body-local)) (list-behind (c .before .before .before .before .before .before .before .before .before .before .before .before .before .before .before .before)) (c .before .before .before .before .before .before .before .before .before .before .before .before .before .before .before .before .before .before .before .before .before .before .before .before .args .len) (closed (c .before .before .before .before)) (c .before .before .if1 .taken)))
 
-no-location-accept-requires-6 : tie.Need-no-location-accept-requires-6
-no-location-accept-requires-6 c κs = search needs
+refused-requires-6 : tie.Need-refused-requires-6
+refused-requires-6 c κs = search needs
 
 returns-7 : tie.Need-returns-7
 unfolding locationAccept
 returns-7 c =
-    rw (c .no-location-accept6 .ensures)
-    (answer locationAcceptAnswer (structure-inexact downlinks-sound groupIdentityDownlink _ (local-tail (accept-laws .body-local)) (list-behind (c .before .before .before .before .before .before .before .before .before .before .before .before .before .before .before)) (c .before .before .before .before .before .before .before .before .before .before .before .before .before .before .before .before .before .before .before .before .before .before .before .args .len) (closed (c .before .before .before)) (c .before .if1 .left)))
+    c .refused6 .ensures ∙ answer locationAcceptAnswer (structure-inexact downlinks-sound groupIdentityDownlink _ (local-tail (accept-laws .body-local)) (list-behind (c .before .before .before .before .before .before .before .before .before .before .before .before .before .before .before)) (c .before .before .before .before .before .before .before .before .before .before .before .before .before .before .before .before .before .before .before .before .before .before .before .args .len) (closed (c .before .before .before)) (c .before .if1 .left))
 
 pub from-bitbuf-spec : {M : Type 1} → statement M
 from-bitbuf-spec =
@@ -175,31 +178,34 @@ from-bitbuf-spec =
     enum-known-f
     enum-told
     refusal-requires
-    no-location-accept-requires
+    refused-requires
     returns
     pass-requires
     enum-known-p
     enum-told-2
-    no-location-accept-requires-2
+    refusal-requires-2
+    refused-requires-2
     returns-2
     read-u8-requires-2
     enum-known-o
     enum-told-3
-    refusal-requires-2
-    no-location-accept-requires-3
+    refusal-requires-3
+    refused-requires-3
     returns-3
     read-downlinks-slot-requires
     enum-known-v
     enum-told-4
-    no-location-accept-requires-4
+    refusal-requires-4
+    refused-requires-4
     returns-4
     read-empty-table-requires
     enum-known-e
     enum-told-5
-    no-location-accept-requires-5
+    refusal-requires-5
+    refused-requires-5
     returns-5
     sub-if1
     part-by-part-requires
     returns-6
-    no-location-accept-requires-6
+    refused-requires-6
     returns-7)

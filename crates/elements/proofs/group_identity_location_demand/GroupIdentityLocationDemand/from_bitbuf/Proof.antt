@@ -4,7 +4,7 @@ use borrow.Author.Needs.{needs}
 use Prim.Native.Nat.{ℕ, _≤_, _<_}
 use native.Mathlib.Omega.{arith}
 use mathlib.Core.List.{List}
-use mathlib.Core.Path.{ap}
+use mathlib.Core.Path.{ap, _∙_}
 use lib.Dec.{eqb}
 use borrow.Author.Tests.{eq-eqb, ne-eqb}
 use Rattle.bits.specs.PduParseError.{invalidValue}
@@ -20,7 +20,7 @@ use Rattle.elements.specs.ListsLaws.{uplinks-sound}
 use Rattle.elements.specs.Locations.{nested, groupIdentityUplink, demandBody, locationDemand}
 use Rattle.elements.specs.LocationsLaws.{demandOf, demand-laws}
 use Rattle.elements.specs.GroupAnswers.{nestedSlotIf, locationDemandAnswer}
-use Rattle.elements.specs.Verdicts.{answer, uplinks-beside, verdict-to, verdict-refused}
+use Rattle.elements.specs.Verdicts.{answer, uplinks-beside, verdict-to, verdict-refused, numbered}
 use Rattle.elements.specs.PlacedLocations.{list-unannounced, list-refused, list-unclosed, list-closed, structure-refused, structure-on, structure-whole, structure-inexact}
 use Rattle.elements.specs.declared.group_identity_location_demand.GroupIdentityLocationDemand.{GroupIdentityLocationDemand}
 use Rattle.elements.proofs.group_identity_location_demand.GroupIdentityLocationDemand.from_bitbuf.Statement.{statement}
@@ -77,23 +77,21 @@ enum-told c = search needs
 refusal-requires : tie.Need-refusal-requires
 refusal-requires c κs = search needs
 
-no-location-demand-requires : tie.Need-no-location-demand-requires
-no-location-demand-requires c κs = search needs
+refused-requires : tie.Need-refused-requires
+refused-requires c κs = search needs
 
 returns : tie.Need-returns
 unfolding word demandBody locationDemand
 returns c =
-    rw (c .no-location-demand .ensures)
-    (answer locationDemandAnswer (exact-stop (c .before .before .before .before .before .before .args .len) (stop _ (by-refusal (c .before .before .before .before .read-u8 .ensures) (ap asField8 (c .before .before .enum-told .given .1)) (c .before .refusal .ensures)))))
+    c .refused .ensures ∙ answer locationDemandAnswer (exact-stop (c .before .before .before .before .before .before .args .len) (stop _ (by-refusal (c .before .before .before .before .read-u8 .ensures) (ap asField8 (c .before .before .enum-told .given .1)) (c .before .refusal .ensures))))
 
-no-location-demand-requires-2 : tie.Need-no-location-demand-requires-2
-no-location-demand-requires-2 c κs = search needs
+refused-requires-2 : tie.Need-refused-requires-2
+refused-requires-2 c κs = search needs
 
 returns-2 : tie.Need-returns-2
 unfolding locationDemand
 returns-2 c =
-    rw (c .no-location-demand2 .ensures)
-    (answer locationDemandAnswer (exact-stop (c .before .before .before .before .before .before .before .args .len) (reserved (first (c .before .before .before)) (c .before .if1 .taken))))
+    c .refused2 .ensures ∙ answer locationDemandAnswer (exact-stop (c .before .before .before .before .before .before .before .args .len) (reserved (first (c .before .before .before)) (c .before .if1 .taken)))
 
 read-u8-requires-2 : tie.Need-read-u8-requires-2
 read-u8-requires-2 c κs = search needs
@@ -107,15 +105,14 @@ enum-told-2 c = search needs
 refusal-requires-2 : tie.Need-refusal-requires-2
 refusal-requires-2 c κs = search needs
 
-no-location-demand-requires-3 : tie.Need-no-location-demand-requires-3
-no-location-demand-requires-3 c κs = search needs
+refused-requires-3 : tie.Need-refused-requires-3
+refused-requires-3 c κs = search needs
 
 returns-3 : tie.Need-returns-3
 unfolding word locationDemand
 returns-3 c =
-    rw (c .no-location-demand3 .ensures)
-    (answer locationDemandAnswer (exact-stop (c .before .before .before .before .before .before .before .before .before .before .before .args .len) (mode-behind (first (c .before .before .before .before .before .before .before)) (c .before .before .before .before .before .if1 .left) _
-    (stop _ (by-refusal (c .before .before .before .before .read-u82 .ensures) (ap asField8 (c .before .before .enum-told2 .given .1)) (c .before .refusal2 .ensures))))))
+    c .refused3 .ensures ∙ answer locationDemandAnswer (exact-stop (c .before .before .before .before .before .before .before .before .before .before .before .args .len) (mode-behind (first (c .before .before .before .before .before .before .before)) (c .before .before .before .before .before .if1 .left) _
+    (stop _ (by-refusal (c .before .before .before .before .read-u82 .ensures) (ap asField8 (c .before .before .enum-told2 .given .1)) (c .before .refusal2 .ensures)))))
 
 read-u8-requires-3 : tie.Need-read-u8-requires-3
 read-u8-requires-3 c κs = search needs
@@ -129,15 +126,14 @@ enum-told-3 c = search needs
 refusal-requires-3 : tie.Need-refusal-requires-3
 refusal-requires-3 c κs = search needs
 
-no-location-demand-requires-4 : tie.Need-no-location-demand-requires-4
-no-location-demand-requires-4 c κs = search needs
+refused-requires-4 : tie.Need-refused-requires-4
+refused-requires-4 c κs = search needs
 
 returns-4 : tie.Need-returns-4
 unfolding word locationDemand
 returns-4 c =
-    rw (c .no-location-demand4 .ensures)
-    (answer locationDemandAnswer (structure-refused uplinks-sound groupIdentityUplink _ (local-tail (demand-laws .body-local)) (list-behind (c .before .before .before .before .before .before)) (c .before .before .before .before .before .before .before .before .before .before .before .before .before .before .before .args .len)
-    (list-unannounced uplinks-sound _ (by-refusal (c .before .before .before .before .read-u83 .ensures) (ap asField8 (c .before .before .enum-told3 .given .1)) (c .before .refusal3 .ensures)))))
+    c .refused4 .ensures ∙ answer locationDemandAnswer (structure-refused uplinks-sound groupIdentityUplink _ (local-tail (demand-laws .body-local)) (list-behind (c .before .before .before .before .before .before)) (c .before .before .before .before .before .before .before .before .before .before .before .before .before .before .before .args .len)
+    (list-unannounced uplinks-sound _ (by-refusal (c .before .before .before .before .read-u83 .ensures) (ap asField8 (c .before .before .enum-told3 .given .1)) (c .before .refusal3 .ensures))))
 
 read-uplinks-slot-requires : tie.Need-read-uplinks-slot-requires
 read-uplinks-slot-requires c κs = search needs
@@ -148,15 +144,17 @@ enum-known-v c = search needs
 enum-told-4 : tie.Need-enum-told-4
 enum-told-4 c = search needs
 
-no-location-demand-requires-5 : tie.Need-no-location-demand-requires-5
-no-location-demand-requires-5 c κs = search needs
+refusal-requires-4 : tie.Need-refusal-requires-4
+refusal-requires-4 c κs = search needs
+
+refused-requires-5 : tie.Need-refused-requires-5
+refused-requires-5 c κs = search needs
 
 returns-5 : tie.Need-returns-5
 unfolding locationDemand
 returns-5 c =
-    rw (c .before .enum-told4 .given .1, c .no-location-demand5 .ensures)
-    (answer locationDemandAnswer (structure-refused uplinks-sound groupIdentityUplink _ (local-tail (demand-laws .body-local)) (list-behind (c .before .before .before .before .before .before .before .before .before)) (c .before .before .before .before .before .before .before .before .before .before .before .before .before .before .before .before .before .before .args .len)
-    (list-refused uplinks-sound _ (announced (c .before .before .before .before .before)) (verdict-refused uplinks-beside (c .before .before .before .read-uplinks-slot .ensures) (c .before .enum-told4 .given .1)))))
+    c .refused5 .ensures ∙ answer locationDemandAnswer (structure-refused uplinks-sound groupIdentityUplink _ (local-tail (demand-laws .body-local)) (list-behind (c .before .before .before .before .before .before .before .before .before .before)) (c .before .before .before .before .before .before .before .before .before .before .before .before .before .before .before .before .before .before .before .args .len)
+    (list-refused uplinks-sound _ (announced (c .before .before .before .before .before .before)) (verdict-refused uplinks-beside (c .before .before .before .before .read-uplinks-slot .ensures) (numbered (c .before .before .enum-told4 .given .1) (c .before .refusal4 .ensures)))))
 
 read-empty-table-requires : tie.Need-read-empty-table-requires
 read-empty-table-requires c κs = search needs
@@ -167,15 +165,17 @@ enum-known-e c = search needs
 enum-told-5 : tie.Need-enum-told-5
 enum-told-5 c = search needs
 
-no-location-demand-requires-6 : tie.Need-no-location-demand-requires-6
-no-location-demand-requires-6 c κs = search needs
+refusal-requires-5 : tie.Need-refusal-requires-5
+refusal-requires-5 c κs = search needs
+
+refused-requires-6 : tie.Need-refused-requires-6
+refused-requires-6 c κs = search needs
 
 returns-6 : tie.Need-returns-6
 unfolding locationDemand
 returns-6 c =
-    rw (c .before .enum-told5 .given .1, c .no-location-demand6 .ensures)
-    (answer locationDemandAnswer (structure-refused uplinks-sound groupIdentityUplink _ (local-tail (demand-laws .body-local)) (list-behind (c .before .before .before .before .before .before .before .before .before .before .before .before .before)) (c .before .before .before .before .before .before .before .before .before .before .before .before .before .before .before .before .before .before .before .before .before .before .args .len)
-    (list-unclosed uplinks-sound _ (announced (c .before .before .before .before .before .before .before .before .before)) (listed (c .before .before .before .before .before)) (by (c .before .before .before .read-empty-table .ensures) (ap asMoved (c .before .enum-told5 .given .1))))))
+    c .refused6 .ensures ∙ answer locationDemandAnswer (structure-refused uplinks-sound groupIdentityUplink _ (local-tail (demand-laws .body-local)) (list-behind (c .before .before .before .before .before .before .before .before .before .before .before .before .before .before)) (c .before .before .before .before .before .before .before .before .before .before .before .before .before .before .before .before .before .before .before .before .before .before .before .args .len)
+    (list-unclosed uplinks-sound _ (announced (c .before .before .before .before .before .before .before .before .before .before)) (listed (c .before .before .before .before .before .before)) (by-refusal (c .before .before .before .before .read-empty-table .ensures) (ap asMoved (c .before .before .enum-told5 .given .1)) (c .before .refusal5 .ensures))))
 
 sub-if2 : tie.Need-sub-if2
 sub-if2 c =
@@ -190,14 +190,13 @@ returns-7 c =
     rw (c .part-by-part .ensures)
     (answer locationDemandAnswer (structure-whole uplinks-sound groupIdentityUplink _ (local-tail (demand-laws .body-local)) (list-behind (c .before .before .before .before .before .before .before .before .before .before .before .before .before .before .before .before)) (c .before .before .before .before .before .before .before .before .before .before .before .before .before .before .before .before .before .before .before .before .before .before .before .before .before .args .len) (closed (c .before .before .before .before)) (c .before .before .if2 .taken)))
 
-no-location-demand-requires-7 : tie.Need-no-location-demand-requires-7
-no-location-demand-requires-7 c κs = search needs
+refused-requires-7 : tie.Need-refused-requires-7
+refused-requires-7 c κs = search needs
 
 returns-8 : tie.Need-returns-8
 unfolding locationDemand
 returns-8 c =
-    rw (c .no-location-demand7 .ensures)
-    (answer locationDemandAnswer (structure-inexact uplinks-sound groupIdentityUplink _ (local-tail (demand-laws .body-local)) (list-behind (c .before .before .before .before .before .before .before .before .before .before .before .before .before .before .before)) (c .before .before .before .before .before .before .before .before .before .before .before .before .before .before .before .before .before .before .before .before .before .before .before .before .args .len) (closed (c .before .before .before)) (c .before .if2 .left)))
+    c .refused7 .ensures ∙ answer locationDemandAnswer (structure-inexact uplinks-sound groupIdentityUplink _ (local-tail (demand-laws .body-local)) (list-behind (c .before .before .before .before .before .before .before .before .before .before .before .before .before .before .before)) (c .before .before .before .before .before .before .before .before .before .before .before .before .before .before .before .before .before .before .before .before .before .before .before .before .args .len) (closed (c .before .before .before)) (c .before .if2 .left))
 
 pub from-bitbuf-spec : {M : Type 1} → statement M
 from-bitbuf-spec =
@@ -207,34 +206,36 @@ from-bitbuf-spec =
     enum-known-f
     enum-told
     refusal-requires
-    no-location-demand-requires
+    refused-requires
     returns
-    no-location-demand-requires-2
+    refused-requires-2
     returns-2
     read-u8-requires-2
     enum-known-m
     enum-told-2
     refusal-requires-2
-    no-location-demand-requires-3
+    refused-requires-3
     returns-3
     read-u8-requires-3
     enum-known-o
     enum-told-3
     refusal-requires-3
-    no-location-demand-requires-4
+    refused-requires-4
     returns-4
     read-uplinks-slot-requires
     enum-known-v
     enum-told-4
-    no-location-demand-requires-5
+    refusal-requires-4
+    refused-requires-5
     returns-5
     read-empty-table-requires
     enum-known-e
     enum-told-5
-    no-location-demand-requires-6
+    refusal-requires-5
+    refused-requires-6
     returns-6
     sub-if2
     part-by-part-requires
     returns-7
-    no-location-demand-requires-7
+    refused-requires-7
     returns-8)
