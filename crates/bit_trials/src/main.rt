@@ -1,5 +1,7 @@
 // A field written and a field read at each of 16 offsets, in each width from 0 to 64: a line for each, with the octets
 // and the number.
+#![tactic(auto)]
+
 ghost use Rattle.std.specs.Prelude.{◌≤◌};
 
 use bits::bitbuffer::{Cursor, Field, Moved};

@@ -5,7 +5,7 @@ use Rattle.std.proofs.lemmas.Bool.{lt-leb}
 use Rattle.bits.specs.PduParseError.{value_too_large}
 use Rattle.bits.specs.Bits.{Bits, number, digits}
 use Rattle.bits.specs.BitsLaws.{number_lt, length_digits, number_digits-mod, digits_number, number_append}
-use Rattle.bits.specs.Written.{write, write_field, unwritten, written, bits_in, too_wide, digits_in, Holds, Joined, write_digits}
+use Rattle.bits.specs.Written.{write, write_field, unwritten, bits_in, too_wide, digits_in, Holds, Joined, write_digits}
 use Rattle.bits.specs.WrittenLaws.{field_fits, field_wide}
 use Rattle.bits.specs.declared.bitbuffer.Cursor.{Cursor}
 use Rattle.bits.specs.declared.bitbuffer.Digits.{Digits}

@@ -8,33 +8,33 @@ ghost use Rattle.bits.specs.Written.{splice, put_bits, write_field, written, nex
 use crate::pdu_parse_error::{BUFFER_ENDED, VALUE_TOO_LARGE, WINDOW_TOO_SHORT};
 
 // The bits from `at` up to `end` are left.
-#[derive(Drop)]
+#[derive(Clone, Copy)]
 pub struct Cursor {
     pub at: usize,
     pub end: usize,
 }
 
 // A field's value and the cursor behind it, or the refusal's number.
-#[derive(Drop)]
+#[derive(Clone, Copy)]
 pub enum Field {
     Value(u64, Cursor),
     Refused(u8),
 }
 
-#[derive(Drop)]
+#[derive(Clone, Copy)]
 pub enum Field8 {
     Value(u8, Cursor),
     Refused(u8),
 }
 
-#[derive(Drop)]
+#[derive(Clone, Copy)]
 pub enum Field32 {
     Value(u32, Cursor),
     Refused(u8),
 }
 
 // The cursor behind what was passed or written, or the refusal's number.
-#[derive(Drop)]
+#[derive(Clone, Copy)]
 pub enum Moved {
     To(Cursor),
     Refused(u8),
@@ -42,7 +42,7 @@ pub enum Moved {
 
 // Where what comes next is written: from `at` up to `end`; or nowhere, behind a refusal: `halt` is 0, or 256 and its number.
 // Words only, so that passing it on through memory is fast, which an enum's tag of one octet is not.
-#[derive(Drop)]
+#[derive(Clone, Copy)]
 pub struct Place {
     pub at: usize,
     pub end: usize,
@@ -50,7 +50,7 @@ pub struct Place {
 }
 
 // At most 64 bits, to be written as one field: the low `width` digits of `value`.
-#[derive(Drop)]
+#[derive(Clone, Copy)]
 pub struct Digits {
     pub value: u64,
     pub width: usize,

@@ -38,7 +38,7 @@ pub fn then_saving(d: Digits, o: OptionalEnergySavingInformation) -> Digits
 }
 
 // What questions 8, 12 and 13 find.
-#[derive(Drop)]
+#[derive(Clone, Copy)]
 pub struct SavingAsked {
     pub fits: bool,
     pub alive: bool,

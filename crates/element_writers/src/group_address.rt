@@ -55,7 +55,7 @@ pub(crate) fn downlink_type(gssi: bool, extension: bool, vgssi: bool) -> u64
 }
 
 // What questions 8, 10 and 11 find of a group or of a list, and the bits that it has.
-#[derive(Drop)]
+#[derive(Clone, Copy)]
 pub struct GroupsAsked {
     pub fits: bool,
     pub one: bool,
@@ -103,7 +103,7 @@ pub(crate) fn no_groups(present: bool) -> GroupsAsked
 }
 
 // What questions 8, 10, 11 and 15 find of a location demand or accept, and the lengths of its list's content and of its own.
-#[derive(Drop)]
+#[derive(Clone, Copy)]
 pub struct LocationAsked {
     pub fits: bool,
     pub one: bool,

@@ -1,4 +1,6 @@
 // The elements of the three messages as they are written: the questions asked of them, and their bits.
+#![tactic(auto)]
+
 pub mod class_of_ms;
 pub mod energy_saving_information;
 pub mod group_address;

@@ -9,7 +9,7 @@ ghost use Rattle.elements.specs.GroupAnswers.{as_class};
 use bits::bitbuffer::{Cursor, Field8, Field32};
 
 #[repr(C)]
-#[derive(Drop)]
+#[derive(Clone, Copy)]
 pub struct ClassOfMs {
     pub freq_simplex_duplex: u8,
     pub multislot_phase_mod: u8,
@@ -36,13 +36,13 @@ pub struct ClassOfMs {
 }
 
 #[repr(C)]
-#[derive(Drop)]
+#[derive(Clone, Copy)]
 pub struct OptionalClassOfMs {
     pub present: bool,
     pub value: ClassOfMs,
 }
 
-#[derive(Drop)]
+#[derive(Clone, Copy)]
 pub enum ClassRead {
     Read(OptionalClassOfMs, Cursor),
     Refused(u8),

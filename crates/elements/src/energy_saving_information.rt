@@ -10,7 +10,7 @@ use crate::typed_pdu_fields::OptionalU8;
 use bits::bitbuffer::{Cursor, Field8};
 
 #[repr(C)]
-#[derive(Drop)]
+#[derive(Clone, Copy)]
 pub struct EnergySavingInformation {
     pub energy_saving_mode: u8,
     pub frame_number: OptionalU8,
@@ -18,13 +18,13 @@ pub struct EnergySavingInformation {
 }
 
 #[repr(C)]
-#[derive(Drop)]
+#[derive(Clone, Copy)]
 pub struct OptionalEnergySavingInformation {
     pub present: bool,
     pub value: EnergySavingInformation,
 }
 
-#[derive(Drop)]
+#[derive(Clone, Copy)]
 pub enum SavingRead {
     Read(EnergySavingInformation, Cursor),
     Refused(u8),
@@ -41,7 +41,7 @@ impl SavingRead {
     }
 }
 
-#[derive(Drop)]
+#[derive(Clone, Copy)]
 pub enum OptionalSavingRead {
     Read(OptionalEnergySavingInformation, Cursor),
     Refused(u8),

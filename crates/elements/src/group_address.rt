@@ -7,7 +7,7 @@ ghost use Rattle.elements.specs.GroupAnswers.{address_read, as_address};
 use crate::typed_pdu_fields::{OptionalU32Read, read_optional_u32};
 use bits::bitbuffer::{Cursor, Field8};
 
-#[derive(Drop)]
+#[derive(Clone, Copy)]
 pub struct GroupAddress {
     pub gssi: u32,
     pub address_extension: u32,
@@ -17,7 +17,7 @@ pub struct GroupAddress {
     pub vgssi_present: bool,
 }
 
-#[derive(Drop)]
+#[derive(Clone, Copy)]
 pub enum AddressRead {
     Read(GroupAddress, Cursor),
     Refused(u8),

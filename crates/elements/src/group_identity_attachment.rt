@@ -7,19 +7,19 @@ ghost use Rattle.elements.specs.GroupAnswers.{optional_attachment, as_attachment
 use bits::bitbuffer::{Cursor, Field8};
 
 #[repr(C)]
-#[derive(Drop)]
+#[derive(Clone, Copy)]
 pub struct GroupIdentityAttachment {
     pub group_identity_attachment_lifetime: u8,
     pub class_of_usage: u8,
 }
 
-#[derive(Drop)]
+#[derive(Clone, Copy)]
 pub struct OptionalAttachment {
     pub present: bool,
     pub value: GroupIdentityAttachment,
 }
 
-#[derive(Drop)]
+#[derive(Clone, Copy)]
 pub enum AttachmentRead {
     Read(OptionalAttachment, Cursor),
     Refused(u8),

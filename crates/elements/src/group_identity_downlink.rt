@@ -17,7 +17,7 @@ use bits::pdu_parse_error::INCONSISTENT_LENGTH;
 
 // Flat and without padding, as the uplink group.
 #[repr(C)]
-#[derive(Drop)]
+#[derive(Clone, Copy)]
 pub struct GroupIdentityDownlink {
     pub gssi: u32,
     pub address_extension: u32,
@@ -33,14 +33,14 @@ pub struct GroupIdentityDownlink {
 
 // A list of groups that may be absent: those up to the count are there, the others hold zero.
 #[repr(C)]
-#[derive(Drop)]
+#[derive(Clone, Copy)]
 pub struct OptionalDownlinks {
     pub present: bool,
     pub count: usize,
     pub groups: [GroupIdentityDownlink; 63],
 }
 
-#[derive(Drop)]
+#[derive(Clone, Copy)]
 pub enum DownlinkRead {
     Read(GroupIdentityDownlink, Cursor),
     Refused(u8),
@@ -57,7 +57,7 @@ impl DownlinkRead {
     }
 }
 
-#[derive(Drop)]
+#[derive(Clone, Copy)]
 pub struct DownlinksRead {
     pub verdict: Moved,
     pub list: OptionalDownlinks,

@@ -12,26 +12,26 @@ use bits::bitbuffer::{Cursor, Field, Field8, Moved};
 use bits::pdu_parse_error::INCONSISTENT_LENGTH;
 
 #[repr(C)]
-#[derive(Drop)]
+#[derive(Clone, Copy)]
 pub struct GroupIdentityLocationAccept {
     pub group_identity_accept_reject: u8,
     pub group_identity_downlink: OptionalDownlinks,
 }
 
 #[repr(C)]
-#[derive(Drop)]
+#[derive(Clone, Copy)]
 pub struct OptionalLocationAccept {
     pub present: bool,
     pub value: GroupIdentityLocationAccept,
 }
 
-#[derive(Drop)]
+#[derive(Clone, Copy)]
 pub struct LocationAcceptRead {
     pub verdict: Moved,
     pub location: GroupIdentityLocationAccept,
 }
 
-#[derive(Drop)]
+#[derive(Clone, Copy)]
 pub struct LocationAcceptSlot {
     pub verdict: Moved,
     pub location: OptionalLocationAccept,

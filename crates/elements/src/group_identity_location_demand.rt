@@ -12,26 +12,26 @@ use bits::bitbuffer::{Cursor, Field, Field8, Moved};
 use bits::pdu_parse_error::{INCONSISTENT_LENGTH, INVALID_VALUE};
 
 #[repr(C)]
-#[derive(Drop)]
+#[derive(Clone, Copy)]
 pub struct GroupIdentityLocationDemand {
     pub group_identity_attach_detach_mode: u8,
     pub group_identity_uplink: OptionalUplinks,
 }
 
 #[repr(C)]
-#[derive(Drop)]
+#[derive(Clone, Copy)]
 pub struct OptionalLocationDemand {
     pub present: bool,
     pub value: GroupIdentityLocationDemand,
 }
 
-#[derive(Drop)]
+#[derive(Clone, Copy)]
 pub struct LocationDemandRead {
     pub verdict: Moved,
     pub location: GroupIdentityLocationDemand,
 }
 
-#[derive(Drop)]
+#[derive(Clone, Copy)]
 pub struct LocationDemandSlot {
     pub verdict: Moved,
     pub location: OptionalLocationDemand,

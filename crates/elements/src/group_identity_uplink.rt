@@ -13,7 +13,7 @@ use bits::pdu_parse_error::INCONSISTENT_LENGTH;
 
 // Flat and without padding, the widest fields first: a list has 63 of them, and is cleared as one block.
 #[repr(C)]
-#[derive(Drop)]
+#[derive(Clone, Copy)]
 pub struct GroupIdentityUplink {
     pub gssi: u32,
     pub address_extension: u32,
@@ -29,14 +29,14 @@ pub struct GroupIdentityUplink {
 
 // A list of groups that may be absent: those up to the count are there, the others hold zero.
 #[repr(C)]
-#[derive(Drop)]
+#[derive(Clone, Copy)]
 pub struct OptionalUplinks {
     pub present: bool,
     pub count: usize,
     pub groups: [GroupIdentityUplink; 63],
 }
 
-#[derive(Drop)]
+#[derive(Clone, Copy)]
 pub enum UplinkRead {
     Read(GroupIdentityUplink, Cursor),
     Refused(u8),
@@ -53,7 +53,7 @@ impl UplinkRead {
     }
 }
 
-#[derive(Drop)]
+#[derive(Clone, Copy)]
 pub struct UplinksRead {
     pub verdict: Moved,
     pub list: OptionalUplinks,

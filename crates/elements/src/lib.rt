@@ -1,4 +1,6 @@
 // The elements of the three messages.
+#![tactic(auto)]
+
 pub mod class_of_ms;
 pub mod energy_saving_information;
 pub mod energy_saving_mode;

@@ -16,20 +16,20 @@ use bits::pdu_parse_error::{INVALID_TRAILING_MBIT_VALUE, TYPE4_UNDERFLOW};
 
 // What may be absent is presence and value; what is absent holds zero.
 #[repr(C)]
-#[derive(Drop)]
+#[derive(Clone, Copy)]
 pub struct OptionalU8 {
     pub present: bool,
     pub value: u8,
 }
 
-#[derive(Drop)]
+#[derive(Clone, Copy)]
 pub struct OptionalU32 {
     pub present: bool,
     pub value: u32,
 }
 
 #[repr(C)]
-#[derive(Drop)]
+#[derive(Clone, Copy)]
 pub struct OptionalU64 {
     pub present: bool,
     pub value: u64,
@@ -40,19 +40,19 @@ pub const NO_NUMBER: OptionalU64 = OptionalU64 {
     value: 0,
 };
 
-#[derive(Drop)]
+#[derive(Clone, Copy)]
 pub enum OptionalU8Read {
     Read(OptionalU8, Cursor),
     Refused(u8),
 }
 
-#[derive(Drop)]
+#[derive(Clone, Copy)]
 pub enum OptionalU32Read {
     Read(OptionalU32, Cursor),
     Refused(u8),
 }
 
-#[derive(Drop)]
+#[derive(Clone, Copy)]
 pub enum OptionalU64Read {
     Read(OptionalU64, Cursor),
     Refused(u8),
@@ -225,14 +225,14 @@ pub fn read_empty_table(c: Cursor, octets: &[u8], there: bool) -> Moved
 
 // A type 3 element: its declared length, and its first 64 bits as a number.
 #[repr(C)]
-#[derive(Drop)]
+#[derive(Clone, Copy)]
 pub struct Type3FieldGeneric {
     pub len: usize,
     pub data: u64,
 }
 
 #[repr(C)]
-#[derive(Drop)]
+#[derive(Clone, Copy)]
 pub struct OptionalType3 {
     pub present: bool,
     pub value: Type3FieldGeneric,
@@ -240,7 +240,7 @@ pub struct OptionalType3 {
 
 // A type 4 element: its declared length less the 6 bits of its number of entries, that number, and its first 64 bits.
 #[repr(C)]
-#[derive(Drop)]
+#[derive(Clone, Copy)]
 pub struct Type4FieldGeneric {
     pub len: usize,
     pub elems: usize,
@@ -248,7 +248,7 @@ pub struct Type4FieldGeneric {
 }
 
 #[repr(C)]
-#[derive(Drop)]
+#[derive(Clone, Copy)]
 pub struct OptionalType4 {
     pub present: bool,
     pub value: Type4FieldGeneric,
@@ -256,7 +256,7 @@ pub struct OptionalType4 {
 
 // A generic element of either type, while a table is read: small, since a table's slots are copied as one block, and without
 // padding of its own: `padding` is 0 and fills it to 16 octets.
-#[derive(Drop)]
+#[derive(Clone, Copy)]
 pub struct Generic {
     pub data: u64,
     pub len: u32,
@@ -265,7 +265,7 @@ pub struct Generic {
     pub present: bool,
 }
 
-#[derive(Drop)]
+#[derive(Clone, Copy)]
 pub struct GenericRead {
     pub verdict: Moved,
     pub element: Generic,
@@ -404,14 +404,14 @@ pub fn parse_type4_generic(c: Cursor, octets: &[u8]) -> GenericRead
 }
 
 // What stands before the groups of a list: whether it is there, how many they are, and in how many bits.
-#[derive(Drop)]
+#[derive(Clone, Copy)]
 pub struct ListFront {
     pub present: bool,
     pub count: usize,
     pub len: usize,
 }
 
-#[derive(Drop)]
+#[derive(Clone, Copy)]
 pub enum ListFrontRead {
     Read(ListFront, Cursor),
     Refused(u8),
@@ -472,7 +472,7 @@ pub fn read_list_front(c: Cursor, octets: &[u8], there: bool, identifier: u8) ->
 }
 
 // A row of a message's table: a listed identifier, and the kind of element that it opens.
-#[derive(Drop)]
+#[derive(Clone, Copy)]
 pub struct Row {
     pub identifier: u8,
     pub kind: u8,
@@ -494,7 +494,7 @@ pub const NO_ROW: Row = Row {
 };
 
 // A message's table of listed identifiers, in order: the first `count` rows.
-#[derive(Drop)]
+#[derive(Clone, Copy)]
 pub struct Table {
     pub count: usize,
     pub rows: [Row; 8],
@@ -530,7 +530,7 @@ pub fn is_listed(table: Table, identifier: u8) -> bool
 }
 
 // How many unlisted elements were skipped, and the cursor behind them.
-#[derive(Drop)]
+#[derive(Clone, Copy)]
 pub enum Skipped {
     Count(usize, Cursor),
     Refused(u8),
@@ -613,13 +613,13 @@ fn read_generic_slot(c: Cursor, octets: &[u8], row: Row) -> GenericRead
 }
 
 // What the generic slots of a table hold, and how many unlisted elements were skipped before them.
-#[derive(Drop)]
+#[derive(Clone, Copy)]
 pub struct Slots {
     pub skipped: usize,
     pub generics: [Generic; 8],
 }
 
-#[derive(Drop)]
+#[derive(Clone, Copy)]
 pub struct ScanRead {
     pub verdict: Moved,
     pub slots: Slots,

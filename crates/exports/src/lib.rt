@@ -1,4 +1,6 @@
 // The library as it is linked: reading into a flat buffer, and rewriting (document 01, 'What must change shape').
+#![tactic(auto)]
+
 pub mod flat;
 
 ghost use Rattle.std.specs.Prelude.{◌≡◌, ◌≤◌};

@@ -1,4 +1,6 @@
 // For benchmarks: one field read, one field written, and each of the messages read, written, and written over and over.
+#![tactic(auto)]
+
 ghost use Rattle.std.specs.Prelude.{◌≡◌};
 ghost use Rattle.bits.specs.Reader.{word};
 ghost use Rattle.bits.specs.Placed.{at as atCursor, refusal};

@@ -143,7 +143,7 @@ fn options_size(o: AcceptOptions) -> usize
 }
 
 // The elements before the location accept, and the type 4 element behind it.
-#[derive(Drop)]
+#[derive(Clone, Copy)]
 pub struct AcceptRest {
     pub new_registered_area: OptionalType4,
     pub security_downlink: OptionalType3,

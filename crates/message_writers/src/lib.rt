@@ -1,4 +1,6 @@
 // The three messages as they are written, and the writing call on octets and a window (document 01, 'A writing call').
+#![tactic(auto)]
+
 pub mod d_attach_detach_group_identity;
 pub mod d_location_update_accept;
 pub mod parts;

@@ -26,7 +26,7 @@ pub(crate) fn addresses(ssi: OptionalU64, extension: OptionalU64) -> Digits
 }
 
 // Four generic elements that follow each other in a table.
-#[derive(Drop)]
+#[derive(Clone, Copy)]
 pub struct FourGenerics {
     pub first: OptionalType3,
     pub second: OptionalType3,
@@ -35,7 +35,7 @@ pub struct FourGenerics {
 }
 
 // What question 8 finds of them, and the bits that they have.
-#[derive(Drop)]
+#[derive(Clone, Copy)]
 pub struct FourAsked {
     pub fits: bool,
     pub size: usize,

@@ -11,7 +11,7 @@ use bits::pdu_parse_error::{
 };
 
 // The answers to questions 8 to 15, and how many bits the message has.
-#[derive(Drop)]
+#[derive(Clone, Copy)]
 pub struct Answers {
     pub fits: bool,
     pub ciphered: bool,

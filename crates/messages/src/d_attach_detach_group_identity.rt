@@ -21,7 +21,7 @@ use elements::typed_pdu_fields::{
 };
 
 // What stands before the listed elements: the fields up to the O-bit, and the O-bit.
-#[derive(Drop)]
+#[derive(Clone, Copy)]
 pub struct AttachDetachHead {
     pub group_identity_report: u8,
     pub group_identity_acknowledgement_request: u8,
@@ -30,7 +30,7 @@ pub struct AttachDetachHead {
 }
 
 #[repr(C)]
-#[derive(Drop)]
+#[derive(Clone, Copy)]
 pub struct DAttachDetachGroupIdentity {
     pub group_identity_report: u8,
     pub group_identity_acknowledgement_request: u8,
@@ -41,7 +41,7 @@ pub struct DAttachDetachGroupIdentity {
     pub group_identity_security_related_information: OptionalType4,
 }
 
-#[derive(Drop)]
+#[derive(Clone, Copy)]
 pub enum AttachDetachHeadRead {
     Read(AttachDetachHead, Cursor),
     Refused(u8),
@@ -117,7 +117,7 @@ pub fn no_attach_detach() -> DAttachDetachGroupIdentity
 }
 
 // The count skipped and the place, or the refusal; and the record beside it.
-#[derive(Drop)]
+#[derive(Clone, Copy)]
 pub struct AttachDetachRead {
     pub verdict: Skipped,
     pub record: DAttachDetachGroupIdentity,

@@ -29,7 +29,7 @@ use elements::typed_pdu_fields::{
 };
 
 // The type 2 elements.
-#[derive(Drop)]
+#[derive(Clone, Copy)]
 pub struct AcceptOptions {
     pub ssi: OptionalU64,
     pub address_extension: OptionalU64,
@@ -39,7 +39,7 @@ pub struct AcceptOptions {
 }
 
 // What stands before the listed elements: the fields up to the O-bit, the O-bit and the type 2 elements.
-#[derive(Drop)]
+#[derive(Clone, Copy)]
 pub struct AcceptHead {
     pub location_update_accept_type: u8,
     pub obit: u8,
@@ -47,7 +47,7 @@ pub struct AcceptHead {
 }
 
 #[repr(C)]
-#[derive(Drop)]
+#[derive(Clone, Copy)]
 pub struct DLocationUpdateAccept {
     pub location_update_accept_type: u8,
     pub ssi: OptionalU64,
@@ -65,7 +65,7 @@ pub struct DLocationUpdateAccept {
     pub proprietary: OptionalType3,
 }
 
-#[derive(Drop)]
+#[derive(Clone, Copy)]
 pub enum AcceptOptionsRead {
     Read(AcceptOptions, Cursor),
     Refused(u8),
@@ -82,7 +82,7 @@ impl AcceptOptionsRead {
     }
 }
 
-#[derive(Drop)]
+#[derive(Clone, Copy)]
 pub enum AcceptHeadRead {
     Read(AcceptHead, Cursor),
     Refused(u8),
@@ -242,7 +242,7 @@ pub fn no_accept() -> DLocationUpdateAccept
 }
 
 // The count skipped and the place, or the refusal; and the record beside it.
-#[derive(Drop)]
+#[derive(Clone, Copy)]
 pub struct AcceptRead {
     pub verdict: Skipped,
     pub record: DLocationUpdateAccept,

@@ -1,4 +1,6 @@
 // The three messages, and the reading calls on octets and a window (document 01, 'A reading call').
+#![tactic(auto)]
+
 pub mod d_attach_detach_group_identity;
 pub mod d_location_update_accept;
 pub mod u_location_update_demand;
@@ -18,21 +20,21 @@ use u_location_update_demand::{ULocationUpdateDemand, no_demand};
 
 // The record of a call: the message's own is filled, the others stay absent and zero.
 #[repr(C)]
-#[derive(Drop)]
+#[derive(Clone, Copy)]
 pub struct Record {
     pub demand: ULocationUpdateDemand,
     pub accept: DLocationUpdateAccept,
     pub attach_detach: DAttachDetachGroupIdentity,
 }
 
-#[derive(Drop)]
+#[derive(Clone, Copy)]
 pub enum Verdict {
     Accepted,
     Refused(u8),
 }
 
 // The answer of a reading call: a refusal has the first bit as its place, counts of 0 and the empty record.
-#[derive(Drop)]
+#[derive(Clone, Copy)]
 pub struct Reading {
     pub verdict: Verdict,
     pub place: usize,
@@ -42,7 +44,7 @@ pub struct Reading {
 }
 
 // The answer of a writing call: the number of bits written, 0 with a refusal.
-#[derive(Drop)]
+#[derive(Clone, Copy)]
 pub struct Writing {
     pub verdict: Verdict,
     pub written: usize,

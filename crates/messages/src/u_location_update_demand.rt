@@ -27,7 +27,7 @@ use elements::typed_pdu_fields::{
 };
 
 // The type 2 elements.
-#[derive(Drop)]
+#[derive(Clone, Copy)]
 pub struct DemandOptions {
     pub class_of_ms: OptionalClassOfMs,
     pub energy_saving_mode: OptionalU8,
@@ -37,7 +37,7 @@ pub struct DemandOptions {
 }
 
 // What stands before the listed elements: the fields up to the O-bit, the O-bit and the type 2 elements.
-#[derive(Drop)]
+#[derive(Clone, Copy)]
 pub struct DemandHead {
     pub location_update_type: u8,
     pub request_to_append_la: u8,
@@ -48,7 +48,7 @@ pub struct DemandHead {
 }
 
 #[repr(C)]
-#[derive(Drop)]
+#[derive(Clone, Copy)]
 pub struct ULocationUpdateDemand {
     pub location_update_type: u8,
     pub request_to_append_la: u8,
@@ -66,7 +66,7 @@ pub struct ULocationUpdateDemand {
     pub proprietary: OptionalType3,
 }
 
-#[derive(Drop)]
+#[derive(Clone, Copy)]
 pub enum DemandOptionsRead {
     Read(DemandOptions, Cursor),
     Refused(u8),
@@ -83,7 +83,7 @@ impl DemandOptionsRead {
     }
 }
 
-#[derive(Drop)]
+#[derive(Clone, Copy)]
 pub enum DemandHeadRead {
     Read(DemandHead, Cursor),
     Refused(u8),
@@ -270,7 +270,7 @@ pub fn no_demand() -> ULocationUpdateDemand
 }
 
 // The count skipped and the place, or the refusal; and the record beside it.
-#[derive(Drop)]
+#[derive(Clone, Copy)]
 pub struct DemandRead {
     pub verdict: Skipped,
     pub record: ULocationUpdateDemand,

@@ -6,7 +6,7 @@ use crate::words::{Decimal, after_word, are_digits, decimal_of, first_word, is_s
 use messages::{ACCEPT, ATTACH_DETACH, DEMAND, SKIPPING, STRICT};
 
 // What keeps a line from being a call.
-#[derive(Drop)]
+#[derive(Clone, Copy)]
 pub(crate) enum Fault {
     LineTooLong,
     WordsMissing,
@@ -21,7 +21,7 @@ pub(crate) enum Fault {
 }
 
 // A word that was read as a number, or why it was not.
-#[derive(Drop)]
+#[derive(Clone, Copy)]
 pub(crate) enum Number {
     Value(u64),
     Unread(Fault),
@@ -39,7 +39,7 @@ impl Number {
 }
 
 // A reading call but for its octets.
-#[derive(Drop)]
+#[derive(Clone, Copy)]
 pub(crate) struct Call {
     pub(crate) message: u64,
     pub(crate) wanted: u64,
@@ -48,7 +48,7 @@ pub(crate) struct Call {
 }
 
 // What a line is: passed over, unreadable, or a call.
-#[derive(Drop)]
+#[derive(Clone, Copy)]
 pub(crate) enum Asked {
     Nothing,
     Unread(Fault),

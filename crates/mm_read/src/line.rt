@@ -5,7 +5,7 @@ ghost use Rattle.mm_read.specs.Lines.{kept, without_return};
 const RETURN: u8 = 13;
 
 // How much of a line has come, and the line's number.
-#[derive(Drop)]
+#[derive(Clone, Copy)]
 pub(crate) struct Held {
     pub(crate) count: usize,
     pub(crate) number: u64,

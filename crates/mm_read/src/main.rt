@@ -1,5 +1,7 @@
 // Reads messages at the bench: each line of standard input is a reading call, whose answer is printed field by field.
 // A line: message, reading, octets in hexadecimal, and if wanted the window's first and end bit.
+#![tactic(auto)]
+
 mod call;
 mod line;
 mod show;
@@ -104,7 +106,7 @@ fn take_piece(line: &mut [u8], h: Held, piece: &[u8]) -> Held
 }
 
 // What is held behind a piece of the input, and whether there was one.
-#[derive(Drop)]
+#[derive(Clone, Copy)]
 struct Taken {
     held: Held,
     more: bool,

@@ -127,7 +127,7 @@ pub(crate) fn put_octets(hex: &[u8], out: &mut [u8]) -> usize
 }
 
 // A number in decimal, or that it is too large for 64 bits.
-#[derive(Drop)]
+#[derive(Clone, Copy)]
 pub(crate) enum Decimal {
     Value(u64),
     TooLarge,

@@ -1,5 +1,7 @@
 // Recorded calls from standard input, each made of the library as it is linked, a reading or a rewriting: a line with the answer
 // for each. The answers that it is held to are the original's (`host/run record`).
+#![tactic(auto)]
+
 ghost use Rattle.std.specs.Prelude.{◌≤◌, length};
 
 use exports::{tetra_mm_read, tetra_mm_rewrite};

@@ -1,4 +1,6 @@
 // The messages of document 01 that are tried by running them: a line for each reading.
+#![tactic(auto)]
+
 mod build;
 mod generics;
 mod lists;

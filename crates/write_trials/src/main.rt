@@ -1,5 +1,7 @@
 // Records around each question of a writing call, written to octets of ones: a line for each. The lines that it is held to
 // are the original's and the judge's (`host/run write-trials`).
+#![tactic(auto)]
+
 mod beyond;
 mod faults;
 mod groups;

@@ -1,0 +1,48 @@
+-- `bits::bitbuffer::Cursor::store` meets its contract. Assumes nothing.
+use Prim.Native.Nat.{◌^◌}
+use native.Mathlib.Omega.{arith}
+use mathlib.Core.Path.{◌≡◌, sym, ap, ◌∙◌}
+use borrow.Author.Tests.{ltb-false}
+use Rattle.bits.specs.Written.{Written}
+use Rattle.bits.specs.WrittenLaws.{field-written, field_no_room, field_wide, field_large}
+use Rattle.bits.proofs.Held.{small, held, not-held}
+use Rattle.bits.proofs.bitbuffer.Cursor.store.Goals as goal
+
+answers : {x y : Written} → y ≡ x → (x.answer ≡ y.answer) × (x.octets ≡ y.octets)
+answers e = (sym (ap (λ (z : Written). z.answer) e), sym (ap (λ (z : Written). z.octets) e))
+
+pub returns-then-width-gt64 : goal.returns-then-width-gt64
+returns-then-width-gt64 c =
+    let a = c.args in
+    let w = answers (field_wide a.width a.value a.octets.now a.self (omega arith)) in
+    record { answer = w.0; octets = w.1; room = λ e. omega (arith, e) }
+
+pub put-requires : goal.put-requires
+put-requires c =
+    let a = c.args in
+    let r = held a.octets.now a.self a.width c.holds.ensures c.if-holds.true in
+    let h = small a.value a.width c.within.ensures c.if-within.true in
+    omega arith
+
+pub returns-then-holds : goal.returns-then-holds
+returns-then-holds c =
+    let a = c.args in
+    let r = held a.octets.now a.self a.width c.holds.ensures c.if-holds.true in
+    let h = small a.value a.width c.within.ensures c.if-within.true in
+    let w = answers (field-written a.width a.value a.octets.now a.self (omega arith) h r) in
+    record { answer = w.0; octets = c.put.ensures ∙ w.1; room = λ e. omega arith }
+
+pub returns-then-within : goal.returns-then-within
+returns-then-within c =
+    let a = c.args in
+    let r = not-held a.octets.now a.self a.width c.holds.ensures c.if-holds.false in
+    let h = small a.value a.width c.within.ensures c.if-within.true in
+    let w = answers (field_no_room a.width a.value a.octets.now a.self (omega arith) h r) in
+    record { answer = w.0; octets = w.1; room = λ e. omega (arith, e) }
+
+pub returns : goal.returns
+returns c =
+    let a = c.args in
+    let h = ltb-false a.value (2 ^ a.width) (sym c.within.ensures ∙ c.if-within.false) in
+    let w = answers (field_large a.width a.value a.octets.now a.self h) in
+    record { answer = w.0; octets = w.1; room = λ e. omega (arith, e) }
