@@ -58,30 +58,30 @@ module _ {A X : Type 0} {f : Placed A → X} {verdict : X → Moved} {value : X 
 
 -- ## the answers of this crate
 
-beside : {A X : Type 0} {make : Moved → A → X} {absent : A} {verdict : X → Moved} {value : X → A} → ((v : Moved) (a : A) → verdict (make v a) ≡ v)
+beside : {A X : Type 0} (make : Moved → A → X) {absent : A} {verdict : X → Moved} {value : X → A} → ((v : Moved) (a : A) → verdict (make v a) ≡ v)
     → ((v : Moved) (a : A) → value (make v a) ≡ a) → Beside (answer_of make absent) verdict value
-beside {absent = absent} v w = record { to = λ a k. v (M.To k) a; is = λ a k. w (M.To k) a; not = λ n. v (M.Refused n) absent }
+beside make {absent = absent} v w = record { to = λ a k. v (M.To k) a; is = λ a k. w (M.To k) a; not = λ n. v (M.Refused n) absent }
 
 pub generic_beside : Beside generic_answer (λ r. r.verdict) (λ r. r.element)
-generic_beside = beside (λ v a. refl) (λ v a. refl)
+generic_beside = beside _ (λ v a. refl) (λ v a. refl)
 
 pub slots_beside : Beside slots_answer (λ r. r.verdict) (λ r. r.slots)
-slots_beside = beside (λ v a. refl) (λ v a. refl)
+slots_beside = beside _ (λ v a. refl) (λ v a. refl)
 
 pub uplinks-beside : Beside uplinks_answer (λ r. r.verdict) (λ r. r.list)
-uplinks-beside = beside (λ v a. refl) (λ v a. refl)
+uplinks-beside = beside _ (λ v a. refl) (λ v a. refl)
 
 pub downlinks-beside : Beside downlinks_answer (λ r. r.verdict) (λ r. r.list)
-downlinks-beside = beside (λ v a. refl) (λ v a. refl)
+downlinks-beside = beside _ (λ v a. refl) (λ v a. refl)
 
 pub location_demand-beside : Beside location_demand_answer (λ r. r.verdict) (λ r. r.location)
-location_demand-beside = beside (λ v a. refl) (λ v a. refl)
+location_demand-beside = beside _ (λ v a. refl) (λ v a. refl)
 
 pub location_demand_slot-beside : Beside location_demand_slot_answer (λ r. r.verdict) (λ r. r.location)
-location_demand_slot-beside = beside (λ v a. refl) (λ v a. refl)
+location_demand_slot-beside = beside _ (λ v a. refl) (λ v a. refl)
 
 pub location_accept-beside : Beside location_accept_answer (λ r. r.verdict) (λ r. r.location)
-location_accept-beside = beside (λ v a. refl) (λ v a. refl)
+location_accept-beside = beside _ (λ v a. refl) (λ v a. refl)
 
 pub location_accept_slot-beside : Beside location_accept_slot_answer (λ r. r.verdict) (λ r. r.location)
-location_accept_slot-beside = beside (λ v a. refl) (λ v a. refl)
+location_accept_slot-beside = beside _ (λ v a. refl) (λ v a. refl)

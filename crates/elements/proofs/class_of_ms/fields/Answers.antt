@@ -1,0 +1,7 @@
+-- `elements::class_of_ms::fields` meets its contract: the parts of a word.
+use Rattle.elements.specs.ClassOfMsLaws.{class_fields_lem}
+use borrow.Author.Rules.{rules}
+use Rattle.elements.proofs.class_of_ms.fields.Goals as goal
+
+pub returns : goal.returns
+returns c = class_fields_lem c.args.word

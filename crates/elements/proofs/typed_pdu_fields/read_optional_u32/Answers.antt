@@ -1,0 +1,19 @@
+-- `elements::typed_pdu_fields::read_optional_u32` meets its contract. Assumes nothing.
+use mathlib.Core.Path.{ap}
+use borrow.Author.Rules.{rules}
+use Rattle.bits.specs.ReaderLaws.{local·rules}
+use Rattle.bits.specs.Placed.{as_field32}
+use Rattle.bits.specs.PlacedLaws.{so, by, by-refusal}
+use Rattle.elements.specs.PlacedOptional.{wanted-refused, wanted_read, unwanted}
+use Rattle.elements.proofs.typed_pdu_fields.read_optional_u32.Goals as goal
+
+pub returns-in_default : goal.returns-in_default
+returns-in_default c =
+    so (wanted-refused _ _ _ c.if-wanted.true (by-refusal c.read_u32-f.ensures (ap as_field32 c.in_default.is) c.refusal.ensures))
+
+pub returns-then-wanted : goal.returns-then-wanted
+returns-then-wanted c =
+    so (wanted_read _ _ _ c.if-wanted.true (search local·rules) (by c.read_u32-f.ensures (ap as_field32 c.in-Value.is)))
+
+pub returns : goal.returns
+returns c = so (unwanted _ _ _ c.if-wanted.false)
