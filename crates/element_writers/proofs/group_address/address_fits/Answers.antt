@@ -1,0 +1,7 @@
+-- `element_writers::group_address::address_fits` meets its contract. Assumes nothing.
+use Rattle.elements.specs.Groups.{address_fits}
+use Rattle.element_writers.proofs.group_address.address_fits.Goals as goal
+
+pub returns : goal.returns
+unfolding address_fits
+returns c = rw (c.below_if.ensures, c.below_if-2.ensures, c.below_if-3.ensures)

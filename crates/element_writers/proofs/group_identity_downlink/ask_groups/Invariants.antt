@@ -1,0 +1,13 @@
+-- `element_writers::group_identity_downlink::ask_groups` meets its contract. Assumes nothing.
+use Prim.Native.Nat.{◌*◌, ◌-◌, ◌≤◌}
+use mathlib.Core.Path.{◌≡◌}
+use lib.ListN.{take}
+use Rattle.elements.specs.Lists.{downlinks}
+use Rattle.element_writers.specs.GroupsAsked.{asked_each}
+use Rattle.element_writers.proofs.group_identity_downlink.ask_groups.Given as goal
+
+abbrev pub invariant-loop-i : goal.invariant-loop-i
+invariant-loop-i l = (l.i ≤ l.count) × (l.asked ≡ asked_each downlinks (take l.i l.groups)) × (l.asked.size ≤ 82 * l.i)
+
+abbrev pub decreases-loop-i : goal.decreases-loop-i
+decreases-loop-i l = l.count - l.i

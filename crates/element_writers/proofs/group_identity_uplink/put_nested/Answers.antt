@@ -1,0 +1,29 @@
+-- `element_writers::group_identity_uplink::put_nested` meets its contract. Assumes nothing.
+use Rattle.bits.specs.Placed.{as_place}
+use Rattle.bits.specs.Written.{written, bits_in}
+use Rattle.bits.specs.PlacedLaws.{Fact, fact}
+use Rattle.bits.specs.DigitsLaws.{no_digits, ◌▹◌, behind}
+use Rattle.bits.specs.PutsLaws.{field}
+use Rattle.elements.specs.Lists.{uplinks}
+use Rattle.elements.specs.Locations.{group_identity_uplink_identifier}
+use Rattle.element_writers.specs.GroupParts.{uplink_parts}
+use Rattle.element_writers.specs.WrittenElements.{flag_fits, closing-fits, nested-there, nested-absent}
+use Rattle.element_writers.proofs.group_identity_uplink.put_nested.Goals as goal
+use Rattle.element_writers.proofs.group_identity_uplink.put_nested.Goals.{After-put-m1}
+
+-- what stands before the list is written
+abbrev front-put : After-put-m1 → Fact
+front-put c =
+    fact (field {w = written c.args.octets.now (as_place c.args.m)} (behind (rw c.bit_of.ensures at c.then.ensures)) (flag_fits c.args.front _ c.requires) c.put-m1.ensures)
+
+pub returns-then-listed : goal.returns-then-listed
+returns-then-listed c =
+    let a = c.args in
+    nested-there uplinks uplink_parts group_identity_uplink_identifier (bits_in a.front) a.size a.list c.if-listed.true
+    (front-put ((goal.at.returns-then-listed c).After-put-m1)).holds
+    c.put_list-m2.ensures (field (no_digits ▹ c.then-then-listed.ensures) closing-fits c.put.ensures)
+
+pub returns : goal.returns
+returns c =
+    let a = c.args in
+    nested-absent uplinks uplink_parts group_identity_uplink_identifier (bits_in a.front) a.size a.list c.if-listed.false (front-put ((goal.at.returns c).After-put-m1)).holds

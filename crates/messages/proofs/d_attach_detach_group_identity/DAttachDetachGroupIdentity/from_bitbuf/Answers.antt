@@ -1,0 +1,154 @@
+-- `messages::d_attach_detach_group_identity::DAttachDetachGroupIdentity::from_bitbuf` meets its contract: the head, then no elements, or the table in two
+-- parts and its own slot between them. No count overflows: each element skipped is a bit at least. Assumes nothing.
+use mathlib.Core.Path.{◌≡◌, ap, ◌∙◌, refl}
+use native.Mathlib.Omega.{arith}
+use Prim.Native.Nat.{◌+◌, ℕ, ◌-◌}
+use Rattle.bits.specs.ReaderLaws.{local_tail}
+use Rattle.bits.specs.Placed.{as_moved, placed, at}
+use Rattle.bits.specs.PlacedLaws.{by, by-refusal, Gives, Fact, fact}
+use Rattle.elements.specs.GroupAnswers.{downlinks_slot, downlinks_answer}
+use Rattle.elements.specs.Verdicts.{answer, numbered, verdict_refused, slots_beside, downlinks-beside, verdict_to}
+use Rattle.elements.specs.Parts.{no_front_lem, no_slot, no_back, Each, no_more, one_more, Parts, all_read}
+use Rattle.messages.specs.AttachDetachLaws.{attach_detach_head-local}
+use Rattle.messages.specs.Calls.{attach_detach_format, of_attach_detach}
+use Rattle.messages.specs.PlacedMessages.{no_head, none_follow, elements_follow}
+use Rattle.messages.specs.MessageAnswers.{as_attach_detach_head, attach_detach_answer, attach_detach_from}
+use borrow.Author.Rules.{rules}
+use mathlib.Core.Bool.{Bool, true, false}
+use mathlib.Core.Option.{Option}
+use mathlib.Core.List.{List, [], ◌∷◌, ◌++◌}
+use lib.ListN.{length, take, drop}
+use lib.Seq.{sets, take_all}
+use Rattle.bits.specs.declared.bitbuffer.Cursor.{Cursor}
+use Rattle.elements.specs.Kinds.{Element, row, of_downlinks, held_element, identifier_of, content}
+use Rattle.elements.specs.Rows.{part, no_generics}
+use Rattle.elements.specs.PlacedLocations.{downlinks_slot_lem}
+use Rattle.elements.specs.EmptyParts.{part-ended}
+use Rattle.elements.specs.declared.typed_pdu_fields.Generic.{Generic}
+use Rattle.elements.specs.declared.typed_pdu_fields.Row.{Row}
+use Rattle.elements.specs.declared.group_identity_downlink.OptionalDownlinks.{OptionalDownlinks}
+use Rattle.messages.specs.Format.{body, message}
+use Rattle.messages.specs.AttachDetach.{attach_detach_table, attach_detach_head}
+use Rattle.messages.specs.declared.d_attach_detach_group_identity.AttachDetachHead.{AttachDetachHead}
+use Rattle.messages.specs.declared.Record.{Record}
+use Rattle.messages.proofs.d_attach_detach_group_identity.DAttachDetachGroupIdentity.from_bitbuf.Goals as goal
+use Rattle.messages.proofs.d_attach_detach_group_identity.DAttachDetachGroupIdentity.from_bitbuf.Goals.{After-read_downlinks_slot-d, In-Read, In-To-v, In-To-w, In-To-x, In-To-z, In_default-e}
+
+-- the slots before the own one, and those behind it
+abbrev front : List Row
+front = record { identifier = 15; kind = 0 } ∷ record { identifier = 4; kind = 0 } ∷ []
+
+abbrev back : List Row
+back = record { identifier = 12; kind = 1 } ∷ []
+
+-- what the slots hold, and the same as the code holds it, make the same record
+same_record : (h : AttachDetachHead) (vs ws : List (Option Element)) (v : Option Element) (gs hs : List Generic) → Each front vs gs → Each back ws hs
+    → attach_detach_format.finish h (vs ++ (v ∷ ws)) ≡ of_attach_detach (attach_detach_from h (held_element v).downlinks (sets no_generics 0 gs) (sets no_generics 3 hs))
+same_record h vs ws v gs hs (one_more (one_more no_more)) (one_more no_more) = refl
+
+abbrev parts : AttachDetachHead → Parts OptionalDownlinks Record
+parts h = record {
+  before = front;
+  own = row 7 of_downlinks;
+  behind = back;
+  from = 3;
+  out = λ o. (held_element o).downlinks;
+  made = attach_detach_format.finish h;
+  held = λ l gs hs. of_attach_detach (attach_detach_from h l gs hs);
+  same = same_record h;
+}
+
+-- the octets taken anew are those that were lent, and the message's answer is the same
+abbrev anew : List ℕ → List ℕ
+anew os = take (length os - 0) (drop 0 os)
+
+lent : (os : List ℕ) (c : Cursor) (skipping : Bool)
+    → attach_detach_answer (at (message identifier_of content attach_detach_format skipping) (anew os) c)
+    ≡ attach_detach_answer (at (message identifier_of content attach_detach_format skipping) os c)
+lent os c skipping =
+    ap (λ (xs : List ℕ). attach_detach_answer (at (message identifier_of content attach_detach_format skipping) xs c)) (take_all (length os - 0) (drop 0 os) (omega arith))
+
+-- the head
+headed : (c : In-Read) → Gives attach_detach_head (anew c.args.octets.now) c.args.c (placed c.in-Read.head c.in-Read.c1)
+headed c = by c.read_head-h.ensures (ap as_attach_detach_head c.in-Read.is)
+
+-- behind a head that no empty table follows, the answer is that of the elements
+following : (c : In_default-e) → let a = c.args in
+    attach_detach_answer (at (body identifier_of content attach_detach_format a.skipping c.in-Read.head true) (anew a.octets.now) c.in-Read.c1)
+    ≡ attach_detach_answer (at (message identifier_of content attach_detach_format a.skipping) a.octets.now a.c)
+following c =
+    answer attach_detach_answer (elements_follow attach_detach_format c.args.skipping (by c.read_head-h.ensures (ap as_attach_detach_head c.in-Read.is)) (local_tail attach_detach_head-local) (by c.read_empty_table-e.ensures (ap as_moved c.in_default-e.is)) (by refl refl))
+    ∙ lent _ _ _
+
+-- each part, where it is read
+front_read : (c : In-To-v) → Gives (part attach_detach_table front false c.args.skipping 0) (anew c.args.octets.now) c.in-Read.c1 (placed c.scan_part-a.result.slots c.in-To-v.c3)
+front_read c = verdict_to slots_beside c.scan_part-a.ensures c.in-To-v.is
+
+-- its own slot: a list's slot is the same in a table and inside a structure
+slot_ensured : (c : After-read_downlinks_slot-d) → c.read_downlinks_slot-d.result ≡ downlinks_answer (at (downlinks_slot 7) (anew c.args.octets.now) c.in-To-v.c3)
+slot_ensured c = rw (downlinks_slot_lem 7) c.read_downlinks_slot-d.ensures
+
+slot_read : (c : In-To-w) → Gives (downlinks_slot 7) (anew c.args.octets.now) c.in-To-v.c3 (placed c.read_downlinks_slot-d.result.list c.in-To-w.c4)
+slot_read c = verdict_to downlinks-beside (rw (downlinks_slot_lem 7) c.read_downlinks_slot-d.ensures) c.in-To-w.is
+
+back_read : (c : In-To-x) → Gives (part attach_detach_table back true c.args.skipping 3) (anew c.args.octets.now) c.in-To-w.c4 (placed c.scan_part-b.result.slots c.in-To-x.c6)
+back_read c = verdict_to slots_beside c.scan_part-b.ensures c.in-To-x.is
+
+-- the table, of its parts; and where it ends behind the list
+unfoldable whole : In-To-x → Fact
+unfolding downlinks_slot
+whole c =
+    let slot : c.read_downlinks_slot-d.result ≡ downlinks_answer (at (downlinks_slot 7) (anew c.args.octets.now) c.in-To-v.c3) = rw (downlinks_slot_lem 7) c.read_downlinks_slot-d.ensures in
+    fact (all_read _ c.args.skipping (parts c.in-Read.head) (verdict_to slots_beside c.scan_part-a.ensures c.in-To-v.is) (verdict_to downlinks-beside slot c.in-To-w.is) (back_read c))
+
+unfoldable closed : In-To-z → Fact
+unfolding downlinks_slot
+closed c =
+    let slot : c.read_downlinks_slot-d.result ≡ downlinks_answer (at (downlinks_slot 7) (anew c.args.octets.now) c.in-To-v.c3) = rw (downlinks_slot_lem 7) c.read_downlinks_slot-d.ensures in
+    fact (all_read _ c.args.skipping (parts c.in-Read.head) (verdict_to slots_beside c.scan_part-a.ensures c.in-To-v.is) (verdict_to downlinks-beside slot c.in-To-w.is)
+    (part-ended _ _ _ _ (by c.read_closing_mbit-z.ensures (ap as_moved c.in-To-z.is))))
+
+pub returns-in_default : goal.returns-in_default
+returns-in_default c =
+    c.refused.ensures ∙ answer attach_detach_answer (no_head attach_detach_format c.args.skipping (by-refusal c.read_head-h.ensures (ap as_attach_detach_head c.in_default.is) c.refusal.ensures))
+    ∙ lent _ _ _
+
+pub returns-in_default-v : goal.returns-in_default-v
+returns-in_default-v c =
+    c.refused-in_default-v.ensures ∙ answer attach_detach_answer (no_front_lem _ c.args.skipping (parts c.in-Read.head) (verdict_refused slots_beside c.scan_part-a.ensures (numbered c.in_default-v.is c.refusal-in_default-v.ensures)))
+    ∙ following ((goal.at.returns-in_default-v c).In_default-e)
+
+pub returns-in_default-w : goal.returns-in_default-w
+unfolding downlinks_slot
+returns-in_default-w c =
+    c.refused-in_default-w.ensures ∙ answer attach_detach_answer (no_slot _ c.args.skipping (parts c.in-Read.head) (front_read ((goal.at.returns-in_default-w c).In-To-v))
+    (verdict_refused downlinks-beside (slot_ensured ((goal.at.returns-in_default-w c).After-read_downlinks_slot-d)) (numbered c.in_default-w.is c.refusal-in_default-w.ensures)))
+    ∙ following ((goal.at.returns-in_default-w c).In_default-e)
+
+pub returns-in_default-x : goal.returns-in_default-x
+unfolding downlinks_slot
+returns-in_default-x c =
+    c.refused-in_default-x.ensures ∙ answer attach_detach_answer (no_back _ c.args.skipping (parts c.in-Read.head) (front_read ((goal.at.returns-in_default-x c).In-To-v))
+    (slot_read ((goal.at.returns-in_default-x c).In-To-w)) (verdict_refused slots_beside c.scan_part-b.ensures (numbered c.in_default-x.is c.refusal-in_default-x.ensures)))
+    ∙ following ((goal.at.returns-in_default-x c).In_default-e)
+
+pub overflow_add-result : goal.overflow_add-result
+unfolding whole
+overflow_add-result c =
+    let most = (whole ((goal.at.overflow_add-result c).In-To-x)).holds.most in
+    omega (arith)
+
+pub returns-in_default-z : goal.returns-in_default-z
+unfolding whole
+returns-in_default-z c = rw c.record_of.ensures (answer attach_detach_answer (whole ((goal.at.returns-in_default-z c).In-To-x)).holds.is ∙ following ((goal.at.returns-in_default-z c).In_default-e))
+
+pub returns-in_default-e : goal.returns-in_default-e
+unfolding closed
+returns-in_default-e c =
+    let n = c.scan_part-a.result.slots.skipped in
+    let all : n + 0 ≡ n = omega arith in
+    rw (c.record_of-in_default-e.ensures, ← all) (answer attach_detach_answer (closed ((goal.at.returns-in_default-e c).In-To-z)).holds.is ∙ following ((goal.at.returns-in_default-e c).In_default-e))
+
+pub returns : goal.returns
+returns c =
+    rw (c.record_of-2.ensures, c.no_downlinks.ensures) (answer attach_detach_answer (none_follow attach_detach_format c.args.skipping (headed ((goal.at.returns c).In-Read)) (local_tail attach_detach_head-local) (by c.read_empty_table-e.ensures (ap as_moved c.in-To.is))) ∙ lent _ _ _)

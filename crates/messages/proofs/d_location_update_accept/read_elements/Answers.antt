@@ -1,0 +1,98 @@
+-- `messages::d_location_update_accept::read_elements` meets its contract: the table in two parts, and its own slot between them. No count overflows:
+-- each element skipped is a bit at least. Assumes nothing.
+use mathlib.Core.Path.{◌≡◌, refl, ◌∙◌}
+use native.Mathlib.Omega.{arith}
+use mathlib.Core.Bool.{true, false}
+use mathlib.Core.Option.{Option}
+use mathlib.Core.List.{List, [], ◌∷◌, ◌++◌}
+use lib.Seq.{sets}
+use Rattle.bits.specs.Placed.{placed}
+use Rattle.bits.specs.PlacedLaws.{Gives, Fact, fact}
+use Rattle.elements.specs.Kinds.{Element, row, of_location_accept, held_element}
+use Rattle.elements.specs.Rows.{part, no_generics}
+use Rattle.elements.specs.GroupAnswers.{location_accept_slot}
+use Rattle.elements.specs.Verdicts.{answer, numbered, verdict_to, verdict_refused, slots_beside, location_accept_slot-beside}
+use Rattle.elements.specs.Parts.{Each, no_more, one_more, Parts, no_front_lem, no_slot, no_back, all_read}
+use Rattle.elements.specs.declared.typed_pdu_fields.Generic.{Generic}
+use Rattle.elements.specs.declared.typed_pdu_fields.Row.{Row}
+use Rattle.elements.specs.declared.group_identity_location_accept.OptionalLocationAccept.{OptionalLocationAccept}
+use Rattle.messages.specs.Accept.{accept_table}
+use Rattle.messages.specs.Calls.{of_accept, accept_format}
+use Rattle.messages.specs.MessageAnswers.{accept_from, accept_answer}
+use Rattle.messages.specs.declared.d_location_update_accept.AcceptHead.{AcceptHead}
+use Rattle.messages.specs.declared.Record.{Record}
+use borrow.Author.Rules.{rules}
+use Rattle.messages.proofs.d_location_update_accept.read_elements.Goals as goal
+use Rattle.messages.proofs.d_location_update_accept.read_elements.Goals.{In-To, In-To-w, In-To-x}
+
+-- the slots before the own one, and those behind it
+abbrev front : List Row
+front = record { identifier = 2; kind = 1 } ∷ record { identifier = 3; kind = 0 } ∷ []
+
+abbrev back : List Row
+back = record { identifier = 1; kind = 0 } ∷ record { identifier = 10; kind = 0 } ∷ record { identifier = 12; kind = 1 } ∷ record { identifier = 13; kind = 0 } ∷ record { identifier = 15; kind = 0 } ∷ []
+
+-- what the slots hold, and the same as the code holds it, make the same record
+same_record : (h : AcceptHead) (vs ws : List (Option Element)) (v : Option Element) (gs hs : List Generic) → Each front vs gs → Each back ws hs
+    → accept_format.finish h (vs ++ (v ∷ ws)) ≡ of_accept (accept_from h (held_element v).location_accept (sets no_generics 0 gs) (sets no_generics 3 hs))
+same_record h vs ws v gs hs (one_more (one_more no_more)) (one_more (one_more (one_more (one_more (one_more no_more))))) = refl
+
+abbrev parts : AcceptHead → Parts OptionalLocationAccept Record
+parts h = record {
+  before = front;
+  own = row 5 of_location_accept;
+  behind = back;
+  from = 3;
+  out = λ o. (held_element o).location_accept;
+  made = accept_format.finish h;
+  held = λ l gs hs. of_accept (accept_from h l gs hs);
+  same = same_record h;
+}
+
+-- each part, where it is read
+front_read : (c : In-To) → let a = c.args in
+    Gives (part accept_table front false a.skipping 0) a.octets.now a.c (placed c.scan_part-a.result.slots c.in-To.c1)
+front_read c = verdict_to slots_beside c.scan_part-a.ensures c.in-To.is
+
+slot_read : (c : In-To-w) → Gives (location_accept_slot 5) c.args.octets.now c.in-To.c1 (placed c.read_location_accept_slot-d.result.location c.in-To-w.c2)
+slot_read c = verdict_to location_accept_slot-beside c.read_location_accept_slot-d.ensures c.in-To-w.is
+
+back_read : (c : In-To-x) → let a = c.args in
+    Gives (part accept_table back true a.skipping 3) a.octets.now c.in-To-w.c2 (placed c.scan_part-b.result.slots c.in-To-x.c3)
+back_read c = verdict_to slots_beside c.scan_part-b.ensures c.in-To-x.is
+
+-- the table, of its parts
+abbrev whole : In-To-x → Fact
+unfolding location_accept_slot
+whole c =
+    let a = c.args in
+    fact (all_read _ a.skipping (parts a.head) (verdict_to slots_beside c.scan_part-a.ensures c.in-To.is) (verdict_to location_accept_slot-beside c.read_location_accept_slot-d.ensures c.in-To-w.is) (back_read c))
+
+pub returns-in_default : goal.returns-in_default
+returns-in_default c =
+    let a = c.args in
+    c.refused.ensures ∙ answer accept_answer (no_front_lem _ a.skipping (parts a.head) (verdict_refused slots_beside c.scan_part-a.ensures (numbered c.in_default.is c.refusal.ensures)))
+
+pub returns-in_default-w : goal.returns-in_default-w
+unfolding location_accept_slot
+returns-in_default-w c =
+    let a = c.args in
+    c.refused-in_default-w.ensures ∙ answer accept_answer (no_slot _ a.skipping (parts a.head) (front_read ((goal.at.returns-in_default-w c).In-To))
+    (verdict_refused location_accept_slot-beside c.read_location_accept_slot-d.ensures (numbered c.in_default-w.is c.refusal-in_default-w.ensures)))
+
+pub returns-in_default-x : goal.returns-in_default-x
+unfolding location_accept_slot
+returns-in_default-x c =
+    let a = c.args in
+    c.refused-in_default-x.ensures ∙ answer accept_answer (no_back _ a.skipping (parts a.head) (front_read ((goal.at.returns-in_default-x c).In-To))
+    (slot_read ((goal.at.returns-in_default-x c).In-To-w)) (verdict_refused slots_beside c.scan_part-b.ensures (numbered c.in_default-x.is c.refusal-in_default-x.ensures)))
+
+pub overflow_add-result : goal.overflow_add-result
+unfolding location_accept_slot
+overflow_add-result c =
+    let most = (whole ((goal.at.overflow_add-result c).In-To-x)).holds.most in
+    omega (arith)
+
+pub returns : goal.returns
+unfolding location_accept_slot
+returns c = rw c.record_of.ensures (answer accept_answer (whole ((goal.at.returns c).In-To-x)).holds.is)

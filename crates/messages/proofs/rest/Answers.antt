@@ -1,0 +1,30 @@
+-- `messages::rest` meets its contract: a record's place lies inside the octets. Assumes nothing.
+use native.Mathlib.Omega.{arith}
+use Rattle.messages.specs.PlacedCalls.{place_inside, behind-place, behind-refused}
+use borrow.Author.Rules.{rules}
+use Rattle.messages.proofs.rest.Goals as goal
+
+pub returns-in_default : goal.returns-in_default
+returns-in_default c =
+    let a = c.args in
+    behind-refused a.message a.wanted a.octets.now a.first a.end c.read-r.ensures c.in_default.is
+
+pub overflow_add-k : goal.overflow_add-k
+overflow_add-k c =
+    let a = c.args in
+    let p = place_inside a.message a.wanted a.octets.now a.first a.end c.read-r.ensures c.in-Accepted.is in
+    omega arith
+
+pub slice_bounds-result-count : goal.slice_bounds-result-count
+slice_bounds-result-count c =
+    let a = c.args in
+    let p = place_inside a.message a.wanted a.octets.now a.first a.end c.read-r.ensures c.in-Accepted.is in
+    omega arith
+
+pub slice_bounds-result-start : goal.slice_bounds-result-start
+slice_bounds-result-start c = slice_bounds-result-count c
+
+pub returns : goal.returns
+returns c =
+    let a = c.args in
+    behind-place a.message a.wanted a.octets.now a.first a.end c.read-r.ensures c.in-Accepted.is

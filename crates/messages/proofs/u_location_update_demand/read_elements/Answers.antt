@@ -1,0 +1,99 @@
+-- `messages::u_location_update_demand::read_elements` meets its contract: no slot stands before its own one, and a part of the table behind it. No
+-- count overflows: each element skipped is a bit at least. Assumes nothing.
+use mathlib.Core.Path.{◌≡◌, refl, ap, ◌∙◌}
+use native.Mathlib.Omega.{arith}
+use mathlib.Core.Bool.{true, false}
+use mathlib.Core.Option.{Option}
+use mathlib.Core.List.{List, [], ◌∷◌, ◌++◌}
+use lib.Seq.{sets}
+use Rattle.bits.specs.Placed.{placed}
+use Rattle.bits.specs.PlacedLaws.{Gives, by, by-refusal, Fact, fact}
+use Rattle.elements.specs.Answers.{as_skipped}
+use Rattle.elements.specs.Kinds.{Element, row, of_location_demand, held_element}
+use Rattle.elements.specs.Rows.{part, no_generics}
+use Rattle.elements.specs.GroupAnswers.{location_demand_slot}
+use Rattle.elements.specs.Verdicts.{answer, numbered, verdict_to, verdict_refused, slots_beside, location_demand_slot-beside}
+use Rattle.elements.specs.Parts.{Each, no_more, one_more, Parts, empty-part, empty-part-refused, no_front_lem, no_slot, no_back, all_read}
+use Rattle.elements.specs.declared.typed_pdu_fields.Generic.{Generic}
+use Rattle.elements.specs.declared.typed_pdu_fields.Row.{Row}
+use Rattle.elements.specs.declared.group_identity_location_demand.OptionalLocationDemand.{OptionalLocationDemand}
+use Rattle.messages.specs.Demand.{demand_table}
+use Rattle.messages.specs.Calls.{of_demand, demand_format}
+use Rattle.messages.specs.MessageAnswers.{demand_from, demand_answer}
+use Rattle.messages.specs.declared.u_location_update_demand.DemandHead.{DemandHead}
+use Rattle.messages.specs.declared.Record.{Record}
+use borrow.Author.Rules.{rules}
+use Rattle.messages.proofs.u_location_update_demand.read_elements.Goals as goal
+use Rattle.messages.proofs.u_location_update_demand.read_elements.Goals.{In-Count, In-To, In-To-x}
+
+-- the slots before the own one, and those behind it
+abbrev front : List Row
+front = []
+
+abbrev back : List Row
+back = record { identifier = 4; kind = 0 } ∷ record { identifier = 9; kind = 0 } ∷ record { identifier = 11; kind = 0 } ∷ record { identifier = 15; kind = 0 } ∷ []
+
+-- what the slots hold, and the same as the code holds it, make the same record
+same_record : (h : DemandHead) (vs ws : List (Option Element)) (v : Option Element) (gs hs : List Generic) → Each front vs gs → Each back ws hs
+    → demand_format.finish h (vs ++ (v ∷ ws)) ≡ of_demand (demand_from h (held_element v).location_demand (sets no_generics 1 hs))
+same_record h vs ws v gs hs no_more (one_more (one_more (one_more (one_more no_more)))) = refl
+
+abbrev parts : DemandHead → Parts OptionalLocationDemand Record
+parts h = record {
+  before = front;
+  own = row 3 of_location_demand;
+  behind = back;
+  from = 1;
+  out = λ o. (held_element o).location_demand;
+  made = demand_format.finish h;
+  held = λ l gs hs. of_demand (demand_from h l hs);
+  same = same_record h;
+}
+
+-- each part, where it is read
+front_read : (c : In-Count) → let a = c.args in
+    Gives (part demand_table front false a.skipping 0) a.octets.now a.c (placed (record { skipped = c.in-Count.n; generics = no_generics }) c.in-Count.c1)
+front_read c = empty-part _ _ false 0 (by c.skip_if-s.ensures (ap as_skipped c.in-Count.is))
+
+slot_read : (c : In-To) → Gives (location_demand_slot 3) c.args.octets.now c.in-Count.c1 (placed c.read_location_demand_slot-d.result.location c.in-To.c2)
+slot_read c = verdict_to location_demand_slot-beside c.read_location_demand_slot-d.ensures c.in-To.is
+
+back_read : (c : In-To-x) → let a = c.args in
+    Gives (part demand_table back true a.skipping 1) a.octets.now c.in-To.c2 (placed c.scan_part-b.result.slots c.in-To-x.c3)
+back_read c = verdict_to slots_beside c.scan_part-b.ensures c.in-To-x.is
+
+-- the table, of its parts
+abbrev whole : In-To-x → Fact
+unfolding location_demand_slot
+whole c =
+    let a = c.args in
+    fact (all_read _ a.skipping (parts a.head) (empty-part _ _ false 0 (by c.skip_if-s.ensures (ap as_skipped c.in-Count.is))) (verdict_to location_demand_slot-beside c.read_location_demand_slot-d.ensures c.in-To.is) (back_read c))
+
+pub returns-in_default : goal.returns-in_default
+returns-in_default c =
+    let a = c.args in
+    c.refused.ensures ∙ answer demand_answer (no_front_lem _ a.skipping (parts a.head) (empty-part-refused _ _ false 0 (by-refusal c.skip_if-s.ensures (ap as_skipped c.in_default.is) c.refusal.ensures)))
+
+pub returns-in_default-w : goal.returns-in_default-w
+unfolding location_demand_slot
+returns-in_default-w c =
+    let a = c.args in
+    c.refused-in_default-w.ensures ∙ answer demand_answer (no_slot _ a.skipping (parts a.head) (front_read ((goal.at.returns-in_default-w c).In-Count))
+    (verdict_refused location_demand_slot-beside c.read_location_demand_slot-d.ensures (numbered c.in_default-w.is c.refusal-in_default-w.ensures)))
+
+pub returns-in_default-x : goal.returns-in_default-x
+unfolding location_demand_slot
+returns-in_default-x c =
+    let a = c.args in
+    c.refused-in_default-x.ensures ∙ answer demand_answer (no_back _ a.skipping (parts a.head) (front_read ((goal.at.returns-in_default-x c).In-Count))
+    (slot_read ((goal.at.returns-in_default-x c).In-To)) (verdict_refused slots_beside c.scan_part-b.ensures (numbered c.in_default-x.is c.refusal-in_default-x.ensures)))
+
+pub overflow_add-result : goal.overflow_add-result
+unfolding location_demand_slot
+overflow_add-result c =
+    let most = (whole ((goal.at.overflow_add-result c).In-To-x)).holds.most in
+    omega (arith)
+
+pub returns : goal.returns
+unfolding location_demand_slot
+returns c = rw c.record_of.ensures (answer demand_answer (whole ((goal.at.returns c).In-To-x)).holds.is)
