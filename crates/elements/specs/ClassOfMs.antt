@@ -1,5 +1,5 @@
 -- Class of MS (EN 300 392-2, clause 16.10.5): 24 bits, top bit first, the 22 fields in order.
-use Rattle.std.specs.Prelude.{ℕ, ◌+◌, Bool, true, ◌&&◌, List, [], ◌∷◌, ◌++◌, get_or}
+use Rattle.std.specs.Prelude.{ℕ, Bool, true, ◌&&◌, List, [], ◌∷◌, ◌++◌, get_or}
 use Rattle.std.proofs.Math.Option.{Option}
 use Rattle.bits.specs.Bits.{Bits, digits}
 use Rattle.bits.specs.Reader.{Reader, got, then, ◌>>=◌, field}

@@ -1,5 +1,5 @@
 -- Type 3 and type 4 elements that are kept as they come: the declared length, and the first bits as a number.
-use Rattle.std.specs.Prelude.{ℕ, ◌+◌, ◌-◌, min, Bool, ◌&&◌, ◌++◌, leb}
+use Rattle.std.specs.Prelude.{ℕ, ◌-◌, min, Bool, ◌&&◌, ◌++◌, leb}
 use Rattle.bits.specs.PduParseError.{type4_underflow}
 use Rattle.bits.specs.Bits.{Bits, digits}
 use Rattle.bits.specs.Reader.{Reader, got, ◌>>=◌, field, pass, unless}

@@ -1,5 +1,5 @@
 -- Lists of groups: a type 4 element whose entries are read and written one by one. A list of no entries differs from an absent one.
-use Rattle.std.specs.Prelude.{ℕ, ◌+◌, ◌-◌, ◌≡◌, Bool, true, false, ◌&&◌, List, [], ◌∷◌, ◌++◌, map, length, take, replicate, leb}
+use Rattle.std.specs.Prelude.{ℕ, ◌-◌, ◌≡◌, Bool, true, false, ◌&&◌, List, [], ◌∷◌, ◌++◌, map, length, take, replicate, leb}
 use Rattle.std.proofs.Math.Option.{Option, none, some}
 use Rattle.bits.specs.Bits.{Bits, digits}
 use Rattle.bits.specs.Reader.{Reader, got, ◌>>=◌, times, exactly}

@@ -13,7 +13,7 @@ use borrow.Author.Tests.{leb-true, lt-ltb}
 use Rattle.bits.specs.Bits.{Bits}
 use Rattle.bits.specs.Reader.{got, times, exactly, Local}
 use Rattle.bits.specs.ReaderLaws.{local·rules, got-local, bind_local, times-local, local_tail, split-then, exactly-got, Passes, exactly-passes}
-use Rattle.elements.specs.Numbers.{held, option_all, option_map, Same}
+use Rattle.elements.specs.Numbers.{held, option_all, option_map}
 use Rattle.elements.specs.NumbersLaws.{never, both, same_map}
 use Rattle.elements.specs.GroupsLaws.{uplink-local, uplink_back_lem, uplink-same, uplink_normal-same, uplink-own, downlink-local, downlink_back_lem, downlink-same, downlink_normal-same, downlink-own}
 use Rattle.elements.specs.Generics.{entries_width}

@@ -9,7 +9,7 @@ use Rattle.bits.specs.PduParseError.{buffer_ended}
 use Rattle.bits.specs.Bits.{Bits, number}
 use Rattle.bits.specs.Reader.{Answer, got, refused, Reader, then, ◌>>=◌, field, pass, Tail}
 use Rattle.bits.specs.ReaderLaws.{zero_one, then-then, then_same, local·rules, bind_tail, split-then, got-refused, field-got, field_lt}
-use Rattle.bits.specs.Placed.{window, Placed, placed, halted, place, at}
+use Rattle.bits.specs.Placed.{window, Placed, placed, halted, at}
 use Rattle.bits.specs.PlacedLaws.{Gives, told, told-not, gives-not, step, stop, done}
 use Rattle.bits.specs.PlacedTimes.{alike}
 use Rattle.bits.specs.declared.bitbuffer.Cursor.{Cursor}

@@ -2,7 +2,6 @@
 use mathlib.Core.Path.{sym, ◌∙◌}
 use borrow.Author.Tests.{le-leb, lt-leb}
 use Rattle.messages.specs.Calls.{good_call}
-use borrow.Author.Rules.{rules}
 use Rattle.messages.proofs.is_good_call.Goals as goal
 
 pub returns-then-wanted-le-SKIPPING : goal.returns-then-wanted-le-SKIPPING

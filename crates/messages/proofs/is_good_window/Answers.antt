@@ -1,7 +1,6 @@
 -- `messages::is_good_window` meets its contract. Assumes nothing.
 use borrow.Author.Tests.{le-leb, lt-leb}
 use Rattle.messages.specs.Calls.{good_window}
-use borrow.Author.Rules.{rules}
 use Rattle.messages.proofs.is_good_window.Goals as goal
 
 pub returns-then-first-end : goal.returns-then-first-end

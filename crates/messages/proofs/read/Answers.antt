@@ -4,7 +4,6 @@ use borrow.Author.Tests.{eq-eqb, ne_eqb}
 use Rattle.bits.specs.PlacedLaws.{Fact, fact}
 use Rattle.messages.specs.Calls.{demand, accept, attach_detach}
 use Rattle.messages.specs.PlacedCalls.{good_call_lem, bad_call_lem}
-use borrow.Author.Rules.{rules}
 use Rattle.messages.proofs.read.Goals as goal
 use Rattle.messages.proofs.read.Goals.{Then-is_good_call}
 

@@ -1,5 +1,4 @@
 -- `messages::refused` meets its contract: the empty record beside the number. Assumes nothing.
-use borrow.Author.Rules.{rules}
 use Rattle.messages.proofs.refused.Goals as goal
 
 pub returns : goal.returns

@@ -7,7 +7,6 @@ use Rattle.elements.specs.ClassOfMsLaws.{class-local, class-there, class-ended}
 use mathlib.Core.Path.{ap}
 use Rattle.bits.specs.ReaderLaws.{local_tail}
 use Rattle.elements.specs.PlacedOptional.{type2-ended, type2-refused, type2-read, type2-absent}
-use borrow.Author.Rules.{rules}
 use Rattle.elements.proofs.class_of_ms.parse_type2_class_of_ms.Goals as goal
 use Rattle.elements.proofs.class_of_ms.parse_type2_class_of_ms.Goals.{In-Value}
 

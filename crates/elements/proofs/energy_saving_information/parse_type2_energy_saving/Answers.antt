@@ -8,7 +8,6 @@ use Rattle.elements.specs.Numbers.{flag_width}
 use Rattle.elements.specs.EnergySavingLaws.{saving-local}
 use Rattle.elements.specs.GroupAnswers.{as_saving}
 use Rattle.elements.specs.PlacedOptional.{type2-ended, type2-refused, type2-read, type2-absent}
-use borrow.Author.Rules.{rules}
 use Rattle.elements.proofs.energy_saving_information.parse_type2_energy_saving.Goals as goal
 use Rattle.elements.proofs.energy_saving_information.parse_type2_energy_saving.Goals.{In-Value}
 

@@ -8,7 +8,6 @@ use Rattle.bits.specs.PlacedLaws.{Gives, so, by, by-refusal}
 use Rattle.elements.specs.Groups.{address_type_width, downlink_forms, downlink_address}
 use Rattle.elements.specs.PlacedOptional.{field-small}
 use Rattle.elements.specs.PlacedGroups.{no_type, of_type}
-use borrow.Author.Rules.{rules}
 use Rattle.elements.proofs.group_address.read_downlink_address.Goals as goal
 use Rattle.elements.proofs.group_address.read_downlink_address.Goals.{In-Value}
 

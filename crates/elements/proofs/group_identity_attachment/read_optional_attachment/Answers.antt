@@ -7,7 +7,6 @@ use Rattle.bits.specs.PlacedLaws.{so, by, by-refusal, step, stop, done}
 use Rattle.bits.specs.PlacedTimes.{alike}
 use Rattle.elements.specs.GroupsLaws.{attachment_info-local, attachment-word}
 use Rattle.elements.specs.PlacedOptional.{wanted-refused, wanted_read, unwanted}
-use borrow.Author.Rules.{rules}
 use Rattle.elements.proofs.group_identity_attachment.read_optional_attachment.Goals as goal
 
 pub returns-in_default : goal.returns-in_default

@@ -1,9 +1,7 @@
 -- `elements::group_identity_downlink::read_downlinks_slot` meets its contract: the loop's invariant says that the groups read so far stand
 -- at the front of the array, and that what is left to read is what was asked for; by the laws of a list's slot.
 use native.Mathlib.Omega.{arith}
-use Prim.Native.Nat.{◌-◌}
 use mathlib.Core.Path.{ap, ◌∙◌}
-use borrow.Author.Rules.{rules}
 use Rattle.bits.specs.Placed.{placed}
 use Rattle.bits.specs.PlacedLaws.{Gives, by, by-refusal, Fact, fact}
 use Rattle.elements.specs.Lists.{downlinks}
@@ -11,7 +9,7 @@ use Rattle.elements.specs.ListsLaws.{downlinks_sound}
 use Rattle.elements.specs.Fronts.{list_front, as_list_front}
 use Rattle.elements.specs.GroupAnswers.{as_downlink, downlinks_answer}
 use Rattle.elements.specs.Verdicts.{answer}
-use Rattle.elements.specs.PlacedLists.{Filled, filled_none, no_front_lem, few, group-refused, group-read, list_on, list-whole, list-inexact, list_none}
+use Rattle.elements.specs.PlacedLists.{filled_none, no_front_lem, few, group-refused, group-read, list_on, list-whole, list-inexact, list_none}
 use Rattle.elements.proofs.group_identity_downlink.read_downlinks_slot.Goals as goal
 use Rattle.elements.proofs.group_identity_downlink.read_downlinks_slot.Goals.{In-Read, In-Read-f}
 

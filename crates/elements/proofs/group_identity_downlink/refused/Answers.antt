@@ -1,5 +1,4 @@
 -- `elements::group_identity_downlink::refused` meets its contract: what is empty beside the number.
-use borrow.Author.Rules.{rules}
 use Rattle.elements.proofs.group_identity_downlink.refused.Goals as goal
 
 pub returns : goal.returns

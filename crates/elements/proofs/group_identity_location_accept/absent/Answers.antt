@@ -1,5 +1,4 @@
 -- `elements::group_identity_location_accept::absent` meets its contract: what is absent beside the verdict.
-use borrow.Author.Rules.{rules}
 use Rattle.elements.proofs.group_identity_location_accept.absent.Goals as goal
 
 pub returns : goal.returns

@@ -1,7 +1,6 @@
 -- `elements::group_identity_location_accept::read_location_accept_slot` meets its contract: by the laws of a slot.
 use Rattle.std.proofs.Common.{inl, inr}
 use mathlib.Core.Path.{refl, ap}
-use borrow.Author.Rules.{rules}
 use Rattle.bits.specs.ReaderLaws.{local_tail}
 use Rattle.bits.specs.Reader.{field, word}
 use Rattle.bits.specs.Placed.{placed, as_field}

@@ -1,5 +1,4 @@
 -- `elements::group_identity_location_demand::no_location_demand` meets its contract: an absent list of groups.
-use borrow.Author.Rules.{rules}
 use Rattle.elements.proofs.group_identity_location_demand.no_location_demand.Goals as goal
 
 pub returns : goal.returns

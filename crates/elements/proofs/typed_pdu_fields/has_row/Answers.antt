@@ -1,14 +1,8 @@
 -- `elements::typed_pdu_fields::has_row` meets its contract. The loop's invariant: the answer is that of the rows from `i` on.
 -- The measure is what is left of the rows. Assumes nothing.
-use Prim.Native.Nat.{◌-◌}
 use native.Mathlib.Omega.{arith}
 use mathlib.Core.Path.{◌≡◌, refl, sym, ◌∙◌}
-use mathlib.Core.List.{map}
-use borrow.Author.Rules.{rules}
-use lib.ListN.{length, length-map}
-use Rattle.elements.specs.Table.{is_listed}
-use Rattle.elements.specs.Kinds.{identifier_of}
-use Rattle.elements.specs.Rows.{row_of, slots_from}
+use lib.ListN.{length}
 use Rattle.elements.proofs.Tables.{listed_here, listed_later, listed_none}
 use Rattle.elements.proofs.typed_pdu_fields.has_row.Goals as goal
 use Rattle.elements.proofs.typed_pdu_fields.has_row.Goals.{In-loop-i}

@@ -1,6 +1,5 @@
 -- `elements::typed_pdu_fields::is_elsewhere` meets its contract: the opening is what the look sees. Assumes nothing.
 use mathlib.Core.Path.{ap}
-use borrow.Author.Rules.{rules}
 use Rattle.bits.specs.Placed.{placed}
 use Rattle.bits.specs.PlacedLaws.{Gives, by}
 use Rattle.elements.specs.Answers.{opening, as_optional_u8}

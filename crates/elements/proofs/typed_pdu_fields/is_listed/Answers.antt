@@ -1,7 +1,4 @@
 -- `elements::typed_pdu_fields::is_listed` meets its contract: it asks all rows. Assumes nothing.
-use mathlib.Core.Path.{sym, ◌∙◌}
-use borrow.Author.Rules.{rules}
-use lib.ListN.{length-map}
 use Rattle.elements.proofs.Tables.{slots_all}
 use Rattle.elements.proofs.typed_pdu_fields.is_listed.Goals as goal
 

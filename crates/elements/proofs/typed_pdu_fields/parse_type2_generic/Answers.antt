@@ -1,6 +1,5 @@
 -- `elements::typed_pdu_fields::parse_type2_generic` meets its contract. Assumes nothing.
 use mathlib.Core.Path.{refl, ap}
-use borrow.Author.Rules.{rules}
 use Rattle.bits.specs.Reader.{word}
 use Rattle.bits.specs.Placed.{as_field8}
 use Rattle.bits.specs.PlacedLaws.{so, by, by-refusal}

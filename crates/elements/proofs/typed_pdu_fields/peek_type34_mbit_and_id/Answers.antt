@@ -1,5 +1,4 @@
 -- `elements::typed_pdu_fields::peek_type34_mbit_and_id` meets its contract. Assumes nothing.
-use borrow.Author.Rules.{rules}
 use Rattle.bits.specs.Reader.{word}
 use Rattle.elements.proofs.typed_pdu_fields.peek_type34_mbit_and_id.Goals as goal
 

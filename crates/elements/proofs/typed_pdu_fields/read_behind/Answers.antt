@@ -1,5 +1,4 @@
 -- `elements::typed_pdu_fields::read_behind` meets its contract. Assumes nothing.
-use borrow.Author.Rules.{rules}
 use Rattle.elements.proofs.typed_pdu_fields.read_behind.Goals as goal
 
 pub returns-then-last : goal.returns-then-last

@@ -1,7 +1,6 @@
 -- `elements::typed_pdu_fields::read_closing_mbit` meets its contract. Assumes nothing.
 use mathlib.Core.Path.{ap}
 use borrow.Author.Tests.{eq-eqb, ne_eqb}
-use borrow.Author.Rules.{rules}
 use Rattle.bits.specs.PduParseError.{invalid_trailing_mbit_value}
 use Rattle.bits.specs.Reader.{word}
 use Rattle.bits.specs.ReaderLaws.{local·rules}

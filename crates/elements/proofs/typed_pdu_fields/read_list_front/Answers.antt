@@ -1,6 +1,5 @@
 -- `elements::typed_pdu_fields::read_list_front` meets its contract: by the laws of a slot, and of an element that begins with its number of
 -- entries.
-use borrow.Author.Rules.{rules}
 use native.Mathlib.Omega.{arith}
 use mathlib.Core.Path.{ap}
 use Rattle.bits.specs.Reader.{got, ◌>>=◌, field, word}

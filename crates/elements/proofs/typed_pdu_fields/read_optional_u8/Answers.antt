@@ -1,6 +1,5 @@
 -- `elements::typed_pdu_fields::read_optional_u8` meets its contract. Assumes nothing.
 use mathlib.Core.Path.{ap}
-use borrow.Author.Rules.{rules}
 use Rattle.bits.specs.ReaderLaws.{local·rules}
 use Rattle.bits.specs.Placed.{as_field8}
 use Rattle.bits.specs.PlacedLaws.{so, by, by-refusal}

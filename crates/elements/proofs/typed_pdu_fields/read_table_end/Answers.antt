@@ -1,7 +1,6 @@
 -- `elements::typed_pdu_fields::read_table_end` meets its contract. Assumes nothing.
 use mathlib.Core.Path.{ap}
 use mathlib.Core.Bool.{true}
-use borrow.Author.Rules.{rules}
 use Rattle.bits.specs.ReaderLaws.{local·rules}
 use Rattle.bits.specs.Placed.{as_moved}
 use Rattle.bits.specs.PlacedLaws.{so, by, by-refusal, step, stop, done, Fact, fact}

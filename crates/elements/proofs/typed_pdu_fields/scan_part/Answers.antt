@@ -1,7 +1,6 @@
 -- `elements::typed_pdu_fields::scan_part` meets its contract: before the closing M-bit, and before an element of another part, no slot holds anything.
 -- Assumes nothing.
 use mathlib.Core.Path.{ap, sym, ◌∙◌}
-use borrow.Author.Rules.{rules}
 use Rattle.bits.specs.Placed.{as_moved}
 use Rattle.bits.specs.PlacedLaws.{by}
 use Rattle.elements.specs.Verdicts.{answer}

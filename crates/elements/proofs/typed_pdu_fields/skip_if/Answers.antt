@@ -1,5 +1,4 @@
 -- `elements::typed_pdu_fields::skip_if` meets its contract. Assumes nothing.
-use borrow.Author.Rules.{rules}
 use Rattle.bits.specs.PlacedLaws.{so, done}
 use Rattle.elements.proofs.typed_pdu_fields.skip_if.Goals as goal
 

@@ -1,5 +1,4 @@
 -- `messages::d_attach_detach_group_identity::no_attach_detach` meets its contract: every slot absent.
-use borrow.Author.Rules.{rules}
 use Rattle.messages.proofs.d_attach_detach_group_identity.no_attach_detach.Goals as goal
 
 pub returns : goal.returns

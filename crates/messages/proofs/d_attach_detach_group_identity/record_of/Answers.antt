@@ -1,5 +1,4 @@
 -- `messages::d_attach_detach_group_identity::record_of` meets its contract: each generic slot in its type.
-use borrow.Author.Rules.{rules}
 use Rattle.messages.proofs.d_attach_detach_group_identity.record_of.Goals as goal
 
 pub returns : goal.returns

@@ -1,5 +1,4 @@
 -- `messages::d_attach_detach_group_identity::refused` meets its contract: the empty record beside the number.
-use borrow.Author.Rules.{rules}
 use Rattle.messages.proofs.d_attach_detach_group_identity.refused.Goals as goal
 
 pub returns : goal.returns

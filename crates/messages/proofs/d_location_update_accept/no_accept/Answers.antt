@@ -1,5 +1,4 @@
 -- `messages::d_location_update_accept::no_accept` meets its contract: every element and slot absent.
-use borrow.Author.Rules.{rules}
 use Rattle.messages.proofs.d_location_update_accept.no_accept.Goals as goal
 
 pub returns : goal.returns

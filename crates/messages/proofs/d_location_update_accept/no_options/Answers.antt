@@ -1,5 +1,4 @@
 -- `messages::d_location_update_accept::no_options` meets its contract: every element absent.
-use borrow.Author.Rules.{rules}
 use Rattle.messages.proofs.d_location_update_accept.no_options.Goals as goal
 
 pub returns : goal.returns

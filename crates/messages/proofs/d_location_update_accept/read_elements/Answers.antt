@@ -21,7 +21,6 @@ use Rattle.messages.specs.Calls.{of_accept, accept_format}
 use Rattle.messages.specs.MessageAnswers.{accept_from, accept_answer}
 use Rattle.messages.specs.declared.d_location_update_accept.AcceptHead.{AcceptHead}
 use Rattle.messages.specs.declared.Record.{Record}
-use borrow.Author.Rules.{rules}
 use Rattle.messages.proofs.d_location_update_accept.read_elements.Goals as goal
 use Rattle.messages.proofs.d_location_update_accept.read_elements.Goals.{In-To, In-To-w, In-To-x}
 

@@ -11,7 +11,6 @@ use Rattle.elements.specs.GroupAnswers.{as_optional_saving}
 use Rattle.elements.specs.PlacedOptional.{ends}
 use Rattle.messages.specs.Accept.{accept_options}
 use Rattle.messages.specs.PlacedHeads.{Way, begin, u64_holds, saving-holds, past-type2, type2-stop}
-use borrow.Author.Rules.{rules}
 use Rattle.messages.proofs.d_location_update_accept.read_options.Goals as goal
 use Rattle.messages.proofs.d_location_update_accept.read_options.Goals.{In-Read, In-Read-e, In-Read-f, In-Read-k, In-Read-m}
 

@@ -1,6 +1,5 @@
 -- `messages::d_location_update_accept::read_options_if` meets its contract: the type 2 elements behind an O-bit of 1, else none.
 use Rattle.bits.specs.PlacedLaws.{so, done}
-use borrow.Author.Rules.{rules}
 use Rattle.messages.proofs.d_location_update_accept.read_options_if.Goals as goal
 
 pub returns-then-more : goal.returns-then-more

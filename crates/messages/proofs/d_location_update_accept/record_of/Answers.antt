@@ -1,5 +1,4 @@
 -- `messages::d_location_update_accept::record_of` meets its contract: each generic slot in its type.
-use borrow.Author.Rules.{rules}
 use Rattle.messages.proofs.d_location_update_accept.record_of.Goals as goal
 
 pub returns : goal.returns

@@ -1,5 +1,4 @@
 -- `messages::d_location_update_accept::refused` meets its contract: the empty record beside the number.
-use borrow.Author.Rules.{rules}
 use Rattle.messages.proofs.d_location_update_accept.refused.Goals as goal
 
 pub returns : goal.returns

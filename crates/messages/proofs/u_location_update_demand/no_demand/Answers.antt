@@ -1,5 +1,4 @@
 -- `messages::u_location_update_demand::no_demand` meets its contract: every element and slot absent.
-use borrow.Author.Rules.{rules}
 use Rattle.messages.proofs.u_location_update_demand.no_demand.Goals as goal
 
 pub returns : goal.returns

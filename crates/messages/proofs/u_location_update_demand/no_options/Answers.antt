@@ -1,5 +1,4 @@
 -- `messages::u_location_update_demand::no_options` meets its contract: every element absent.
-use borrow.Author.Rules.{rules}
 use Rattle.messages.proofs.u_location_update_demand.no_options.Goals as goal
 
 pub returns : goal.returns

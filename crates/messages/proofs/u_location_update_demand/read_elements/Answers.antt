@@ -22,7 +22,6 @@ use Rattle.messages.specs.Calls.{of_demand, demand_format}
 use Rattle.messages.specs.MessageAnswers.{demand_from, demand_answer}
 use Rattle.messages.specs.declared.u_location_update_demand.DemandHead.{DemandHead}
 use Rattle.messages.specs.declared.Record.{Record}
-use borrow.Author.Rules.{rules}
 use Rattle.messages.proofs.u_location_update_demand.read_elements.Goals as goal
 use Rattle.messages.proofs.u_location_update_demand.read_elements.Goals.{In-Count, In-To, In-To-x}
 

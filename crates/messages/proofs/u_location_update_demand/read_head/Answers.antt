@@ -12,7 +12,6 @@ use Rattle.elements.specs.PlacedOptional.{ends, option-not}
 use Rattle.messages.specs.DemandLaws.{demand_options-local}
 use Rattle.messages.specs.MessageAnswers.{as_demand_options}
 use Rattle.messages.specs.PlacedHeads.{Way, past, past_type, past-field, u64_holds, past-optional, type_ended, type_other}
-use borrow.Author.Rules.{rules}
 use Rattle.messages.proofs.u_location_update_demand.read_head.Goals as goal
 use Rattle.messages.proofs.u_location_update_demand.read_head.Goals.{In-Read, In-Read-r, In-Value-a, In-Value-k, In-Value-o, In-Value-u, Then-pdu_type-eq-U_LOCATION_UPDATE_DEMAND}
 

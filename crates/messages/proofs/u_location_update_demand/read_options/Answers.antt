@@ -14,7 +14,6 @@ use Rattle.elements.specs.PlacedOptional.{ends}
 use Rattle.elements.specs.declared.typed_pdu_fields.OptionalU64.{OptionalU64}
 use Rattle.messages.specs.Demand.{halved, demand_options}
 use Rattle.messages.specs.PlacedHeads.{Way, begin, u8_holds, u64_holds, class-holds, past-type2, type2-stop}
-use borrow.Author.Rules.{rules}
 use Rattle.messages.proofs.u_location_update_demand.read_options.Goals as goal
 use Rattle.messages.proofs.u_location_update_demand.read_options.Goals.{In-Read, In-Read-e, In-Read-l, In-Read-m, In-Read-s}
 

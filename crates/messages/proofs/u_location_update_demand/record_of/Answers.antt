@@ -1,5 +1,4 @@
 -- `messages::u_location_update_demand::record_of` meets its contract: each generic slot in its type.
-use borrow.Author.Rules.{rules}
 use Rattle.messages.proofs.u_location_update_demand.record_of.Goals as goal
 
 pub returns : goal.returns

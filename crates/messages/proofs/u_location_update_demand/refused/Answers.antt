@@ -1,5 +1,4 @@
 -- `messages::u_location_update_demand::refused` meets its contract: the empty record beside the number.
-use borrow.Author.Rules.{rules}
 use Rattle.messages.proofs.u_location_update_demand.refused.Goals as goal
 
 pub returns : goal.returns

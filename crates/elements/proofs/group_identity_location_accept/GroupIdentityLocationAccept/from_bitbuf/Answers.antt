@@ -1,6 +1,5 @@
 -- `elements::group_identity_location_accept::GroupIdentityLocationAccept::from_bitbuf` meets its contract: by the laws of a list inside a
 -- structure, and of a structure of a declared length.
-use borrow.Author.Rules.{rules}
 use mathlib.Core.Path.{ap, ◌∙◌}
 use lib.Dec.{eqb}
 use Rattle.bits.specs.Reader.{got, ◌>>=◌, field, word}

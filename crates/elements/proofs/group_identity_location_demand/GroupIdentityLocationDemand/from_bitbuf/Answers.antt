@@ -1,6 +1,5 @@
 -- `elements::group_identity_location_demand::GroupIdentityLocationDemand::from_bitbuf` meets its contract: by the laws of a list inside a
 -- structure, and of a structure of a declared length.
-use borrow.Author.Rules.{rules}
 use Prim.Native.Nat.{ℕ, ◌≤◌, ◌<◌}
 use native.Mathlib.Omega.{arith}
 use mathlib.Core.List.{List}

@@ -1,5 +1,4 @@
 -- `elements::group_identity_location_demand::OptionalLocationDemand::part_by_part` meets its contract. Assumes nothing.
-use borrow.Author.Rules.{rules}
 use Rattle.elements.proofs.group_identity_location_demand.OptionalLocationDemand.part_by_part.Goals as goal
 
 pub returns : goal.returns

@@ -13,7 +13,6 @@ use Rattle.messages.specs.AttachDetachLaws.{attach_detach_head-local}
 use Rattle.messages.specs.Calls.{attach_detach_format, of_attach_detach}
 use Rattle.messages.specs.PlacedMessages.{no_head, none_follow, elements_follow}
 use Rattle.messages.specs.MessageAnswers.{as_attach_detach_head, attach_detach_answer, attach_detach_from}
-use borrow.Author.Rules.{rules}
 use mathlib.Core.Bool.{Bool, true, false}
 use mathlib.Core.Option.{Option}
 use mathlib.Core.List.{List, [], ◌∷◌, ◌++◌}

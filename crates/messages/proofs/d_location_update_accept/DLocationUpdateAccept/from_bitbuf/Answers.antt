@@ -9,7 +9,6 @@ use Rattle.messages.specs.Calls.{accept_format}
 use Rattle.messages.specs.AcceptLaws.{accept_head-local}
 use Rattle.messages.specs.PlacedMessages.{no_head, elements_follow, none_follow}
 use Rattle.messages.specs.MessageAnswers.{as_accept_head, accept_answer}
-use borrow.Author.Rules.{rules}
 use Rattle.messages.proofs.d_location_update_accept.DLocationUpdateAccept.from_bitbuf.Goals as goal
 use Rattle.messages.proofs.d_location_update_accept.DLocationUpdateAccept.from_bitbuf.Goals.{In-Read}
 

@@ -9,7 +9,6 @@ use Rattle.messages.specs.Calls.{demand_format}
 use Rattle.messages.specs.DemandLaws.{demand_head-local}
 use Rattle.messages.specs.PlacedMessages.{no_head, elements_follow, none_follow}
 use Rattle.messages.specs.MessageAnswers.{as_demand_head, demand_answer}
-use borrow.Author.Rules.{rules}
 use Rattle.messages.proofs.u_location_update_demand.ULocationUpdateDemand.from_bitbuf.Goals as goal
 use Rattle.messages.proofs.u_location_update_demand.ULocationUpdateDemand.from_bitbuf.Goals.{In-Read}
 
