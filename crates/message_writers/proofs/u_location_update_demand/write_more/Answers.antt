@@ -1,0 +1,40 @@
+-- `message_writers::u_location_update_demand::write_more` meets its contract. Assumes nothing.
+use mathlib.Core.Path.{◌≡◌, refl}
+use mathlib.Core.Bool.{true}
+use Rattle.bits.specs.PlacedLaws.{Fact, fact}
+use Rattle.message_writers.specs.WritesLaws.{asking, all-passed, message-written, message-refused}
+use Rattle.message_writers.specs.Parts.{four_asked}
+use Rattle.message_writers.specs.DemandParts.{demand-generics, demand-in_parts, demand-unlocated}
+use borrow.Author.Rules.{rules}
+use Rattle.message_writers.proofs.u_location_update_demand.write_more.Goals as goal
+use Rattle.message_writers.proofs.u_location_update_demand.write_more.Goals.{After-start-place}
+
+-- where the questions let it begin
+abbrev asked : After-start-place → Fact
+asked v =
+    let a = v.args in
+    fact (asking (v.ask-answers.ensures a.d (record { head = v.requires.0; there = refl; asked = v.ask_location_demand-asked.ensures.0; generics = v.generics_of-g.ensures })) a.octets.now a.c v.start-place.result v.start-place.ensures)
+
+-- where all are passed, the generic elements fit
+four_fit : (v : After-start-place) → v.start-place.result.halt ≡ 0 → (four_asked v.generics_of-g.result).fits ≡ true
+four_fit v t = rw v.generics_of-g.ensures (demand-generics v.args.d (all-passed (asked v).holds t).fits)
+
+pub put_located-requires : goal.put_located-requires
+put_located-requires c = four_fit ((goal.at.put_located-requires c).After-start-place) c.if-place-eq0.true
+
+pub returns-then-location : goal.returns-then-location
+returns-then-location c =
+    message-written (asked ((goal.at.returns-then-location c).After-start-place)).holds (λ i. (c.slice_known-1.given i).fits) c.if-place-eq0.true ((demand-in_parts c.args.d c.ask_location_demand-asked.ensures.0).all c.requires.1)
+    (rw (c.requires.0, c.generics_of-g.ensures) at c.put_located.ensures)
+
+pub put_unlocated-requires : goal.put_unlocated-requires
+put_unlocated-requires c = four_fit ((goal.at.put_unlocated-requires c).After-start-place) c.if-place-eq0.true
+
+pub returns-then-place-eq0 : goal.returns-then-place-eq0
+returns-then-place-eq0 c =
+    message-written (asked ((goal.at.returns-then-place-eq0 c).After-start-place)).holds (λ i. (c.slice_known-1.given i).fits) c.if-place-eq0.true (demand-unlocated c.args.d c.ask_location_demand-asked.ensures.0 c.requires.1 c.if-location.false)
+    (rw (c.requires.0, c.generics_of-g.ensures) at c.put_unlocated.ensures)
+
+pub returns : goal.returns
+returns c =
+    message-refused (asked ((goal.at.returns c).After-start-place)).holds c.if-place-eq0.false
