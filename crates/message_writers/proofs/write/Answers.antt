@@ -3,7 +3,6 @@ use mathlib.Core.Path.{◌∙◌}
 use borrow.Author.Tests.{ne_eqb}
 use Rattle.messages.specs.Calls.{writing, octets_written, writing_refusal}
 use Rattle.message_writers.specs.CallsLaws.{unknown_write}
-use borrow.Author.Rules.{rules}
 use Rattle.message_writers.proofs.write.Goals as goal
 
 pub returns-then-message-eq-DEMAND : goal.returns-then-message-eq-DEMAND

@@ -4,7 +4,6 @@ use Rattle.bits.specs.PlacedLaws.{Fact, fact}
 use Rattle.messages.specs.Head.{d_location_update_accept_type}
 use Rattle.messages.specs.Calls.{accept, of_accept}
 use Rattle.message_writers.specs.CallsLaws.{good_write, bad_write}
-use borrow.Author.Rules.{rules}
 use Rattle.message_writers.proofs.write_accept.Goals as goal
 use Rattle.message_writers.proofs.write_accept.Goals.{After-to_bitbuf}
 

@@ -4,7 +4,6 @@ use Rattle.bits.specs.PlacedLaws.{Fact, fact}
 use Rattle.messages.specs.Head.{d_attach_detach_group_identity_type}
 use Rattle.messages.specs.Calls.{attach_detach, of_attach_detach}
 use Rattle.message_writers.specs.CallsLaws.{good_write, bad_write}
-use borrow.Author.Rules.{rules}
 use Rattle.message_writers.proofs.write_attach_detach.Goals as goal
 use Rattle.message_writers.proofs.write_attach_detach.Goals.{After-to_bitbuf}
 

@@ -4,7 +4,6 @@ use Rattle.bits.specs.PlacedLaws.{Fact, fact}
 use Rattle.messages.specs.Head.{u_location_update_demand_type}
 use Rattle.messages.specs.Calls.{demand, of_demand}
 use Rattle.message_writers.specs.CallsLaws.{good_write, bad_write}
-use borrow.Author.Rules.{rules}
 use Rattle.message_writers.proofs.write_demand.Goals as goal
 use Rattle.message_writers.proofs.write_demand.Goals.{After-to_bitbuf}
 

@@ -3,7 +3,6 @@ use native.Mathlib.Omega.{arith}
 use Rattle.messages.specs.AttachDetach.{attach_detach_asked}
 use mathlib.Core.Bool.{and-true}
 use Rattle.message_writers.specs.AttachDetachParts.{attach_detach_generics_lem, attach_detach_more_lem, attach_detach-length}
-use borrow.Author.Rules.{rules}
 use Rattle.message_writers.proofs.d_attach_detach_group_identity.ask.Goals as goal
 
 pub overflow_add-result : goal.overflow_add-result

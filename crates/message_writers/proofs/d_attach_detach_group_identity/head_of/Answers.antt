@@ -1,6 +1,5 @@
 -- `message_writers::d_attach_detach_group_identity::head_of` meets its contract. Assumes nothing.
 use Rattle.message_writers.specs.AttachDetachParts.{attach_detach_more_lem}
-use borrow.Author.Rules.{rules}
 use Rattle.message_writers.proofs.d_attach_detach_group_identity.head_of.Goals as goal
 
 pub returns : goal.returns

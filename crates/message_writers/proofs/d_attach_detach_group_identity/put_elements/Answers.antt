@@ -2,7 +2,6 @@
 use Rattle.bits.specs.DigitsLaws.{no_digits, ◌▹◌}
 use Rattle.bits.specs.PutsLaws.{field, ◌⨾◌}
 use Rattle.element_writers.specs.WrittenElements.{closing-fits}
-use borrow.Author.Rules.{rules}
 use Rattle.message_writers.proofs.d_attach_detach_group_identity.put_elements.Goals as goal
 
 pub returns : goal.returns

@@ -2,7 +2,6 @@
 use Rattle.bits.specs.PutsLaws.{◌⨾◌}
 use Rattle.element_writers.specs.WrittenElements.{type3-written}
 use Rattle.message_writers.specs.AttachDetachParts.{generics-absent}
-use borrow.Author.Rules.{rules}
 use Rattle.message_writers.proofs.d_attach_detach_group_identity.put_generics.Goals as goal
 
 pub returns-then-p-g : goal.returns-then-p-g

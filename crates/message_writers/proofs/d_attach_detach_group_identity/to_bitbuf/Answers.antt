@@ -6,7 +6,6 @@ use Rattle.messages.specs.AttachDetach.{attach_detach_asked}
 use Rattle.bits.specs.PlacedLaws.{Fact, fact}
 use Rattle.message_writers.specs.WritesLaws.{asking, all-passed, message-written, message-refused, bit-one, bit-other}
 use Rattle.message_writers.specs.AttachDetachParts.{attach_detach_head_in, front-most, attach_detach_generics_lem, attach_detach-in_parts}
-use borrow.Author.Rules.{rules}
 use Rattle.message_writers.proofs.d_attach_detach_group_identity.to_bitbuf.Goals as goal
 use Rattle.message_writers.proofs.d_attach_detach_group_identity.to_bitbuf.Goals.{After-start-place}
 

@@ -1,7 +1,6 @@
 -- `message_writers::d_location_update_accept::ask` meets its contract. Assumes nothing.
 use native.Mathlib.Omega.{arith}
 use Rattle.message_writers.specs.AcceptParts.{accept-answered}
-use borrow.Author.Rules.{rules}
 use Rattle.message_writers.proofs.d_location_update_accept.ask.Goals as goal
 
 pub overflow_add-result : goal.overflow_add-result

@@ -1,6 +1,5 @@
 -- `message_writers::d_location_update_accept::front` meets its contract. Assumes nothing.
 use Rattle.bits.specs.DigitsLaws.{no_digits, ◌▹◌}
-use borrow.Author.Rules.{rules}
 use Rattle.message_writers.proofs.d_location_update_accept.front.Goals as goal
 
 pub returns : goal.returns

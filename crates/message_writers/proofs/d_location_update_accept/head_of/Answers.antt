@@ -1,5 +1,4 @@
 -- `message_writers::d_location_update_accept::head_of` meets its contract. Assumes nothing.
-use borrow.Author.Rules.{rules}
 use Rattle.message_writers.proofs.d_location_update_accept.head_of.Goals as goal
 
 pub returns : goal.returns

@@ -1,6 +1,5 @@
 -- `message_writers::d_location_update_accept::options_fit` meets its contract. Assumes nothing.
 use mathlib.Core.Bool.{and-true}
-use borrow.Author.Rules.{rules}
 use Rattle.message_writers.proofs.d_location_update_accept.options_fit.Goals as goal
 
 pub returns : goal.returns

@@ -1,7 +1,6 @@
 -- `message_writers::d_location_update_accept::options_size` meets its contract. Assumes nothing.
 use native.Mathlib.Omega.{arith}
 use Rattle.message_writers.specs.AcceptParts.{options-length}
-use borrow.Author.Rules.{rules}
 use Rattle.message_writers.proofs.d_location_update_accept.options_size.Goals as goal
 
 pub returns : goal.returns

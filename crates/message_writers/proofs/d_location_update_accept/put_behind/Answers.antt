@@ -3,7 +3,6 @@ use Rattle.bits.specs.PutsLaws.{field, ◌⨾◌}
 use Rattle.element_writers.specs.WrittenElements.{type3-written}
 use Rattle.message_writers.specs.Parts.{addresses_most}
 use Rattle.message_writers.specs.AcceptParts.{second-most}
-use borrow.Author.Rules.{rules}
 use Rattle.message_writers.proofs.d_location_update_accept.put_behind.Goals as goal
 
 pub write_four-requires : goal.write_four-requires

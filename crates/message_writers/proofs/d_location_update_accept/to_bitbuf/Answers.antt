@@ -5,7 +5,6 @@ use Rattle.messages.specs.declared.d_location_update_accept.AcceptHead.{AcceptHe
 use Rattle.bits.specs.PlacedLaws.{Fact, fact}
 use Rattle.message_writers.specs.WritesLaws.{asking, all-passed, message-written, message-refused, bit-one, bit-other}
 use Rattle.message_writers.specs.AcceptParts.{accept_head_in, front-most, accept-generics, accept-in_parts}
-use borrow.Author.Rules.{rules}
 use Rattle.message_writers.proofs.d_location_update_accept.to_bitbuf.Goals as goal
 use Rattle.message_writers.proofs.d_location_update_accept.to_bitbuf.Goals.{After-start-place}
 

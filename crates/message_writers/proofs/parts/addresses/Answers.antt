@@ -1,6 +1,5 @@
 -- `message_writers::parts::addresses` meets its contract. Assumes nothing.
 use Rattle.bits.specs.DigitsLaws.{no_digits, ◌▹◌}
-use borrow.Author.Rules.{rules}
 use Rattle.message_writers.proofs.parts.addresses.Goals as goal
 
 pub returns : goal.returns

@@ -1,6 +1,5 @@
 -- `message_writers::parts::ask_four` meets its contract. Assumes nothing.
 use native.Mathlib.Omega.{arith}
-use borrow.Author.Rules.{rules}
 use Rattle.message_writers.proofs.parts.ask_four.Goals as goal
 
 pub returns : goal.returns

@@ -3,7 +3,6 @@ use Rattle.bits.specs.DigitsLaws.{no_digits, ◌▹◌}
 use Rattle.bits.specs.PutsLaws.{field, ◌⨾◌}
 use Rattle.element_writers.specs.WrittenElements.{type3-written, closing-fits}
 use Rattle.message_writers.specs.Parts.{four_fit, four-absent}
-use borrow.Author.Rules.{rules}
 use Rattle.message_writers.proofs.parts.write_four.Goals as goal
 
 pub returns-then-a-b : goal.returns-then-a-b

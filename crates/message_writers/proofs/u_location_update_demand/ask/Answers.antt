@@ -1,7 +1,6 @@
 -- `message_writers::u_location_update_demand::ask` meets its contract. Assumes nothing.
 use native.Mathlib.Omega.{arith}
 use Rattle.message_writers.specs.DemandParts.{demand-answered}
-use borrow.Author.Rules.{rules}
 use Rattle.message_writers.proofs.u_location_update_demand.ask.Goals as goal
 
 pub overflow_add-result : goal.overflow_add-result

@@ -1,7 +1,6 @@
 -- `message_writers::u_location_update_demand::first_options` meets its contract. Assumes nothing.
 use Rattle.bits.specs.DigitsLaws.{joined-twice, ◌▹◌}
 use Rattle.message_writers.specs.DemandParts.{la_bits_lem}
-use borrow.Author.Rules.{rules}
 use Rattle.message_writers.proofs.u_location_update_demand.first_options.Goals as goal
 
 pub returns : goal.returns

@@ -1,6 +1,5 @@
 -- `message_writers::u_location_update_demand::front` meets its contract. Assumes nothing.
 use Rattle.bits.specs.DigitsLaws.{no_digits, ◌▹◌}
-use borrow.Author.Rules.{rules}
 use Rattle.message_writers.proofs.u_location_update_demand.front.Goals as goal
 
 pub returns : goal.returns

@@ -1,5 +1,4 @@
 -- `message_writers::u_location_update_demand::head_of` meets its contract. Assumes nothing.
-use borrow.Author.Rules.{rules}
 use Rattle.message_writers.proofs.u_location_update_demand.head_of.Goals as goal
 
 pub returns : goal.returns

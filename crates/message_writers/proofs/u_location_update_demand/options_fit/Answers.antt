@@ -1,6 +1,5 @@
 -- `message_writers::u_location_update_demand::options_fit` meets its contract. Assumes nothing.
 use mathlib.Core.Bool.{and-true}
-use borrow.Author.Rules.{rules}
 use Rattle.message_writers.proofs.u_location_update_demand.options_fit.Goals as goal
 
 pub returns : goal.returns

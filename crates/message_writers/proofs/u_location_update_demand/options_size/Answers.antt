@@ -1,7 +1,6 @@
 -- `message_writers::u_location_update_demand::options_size` meets its contract. Assumes nothing.
 use native.Mathlib.Omega.{arith}
 use Rattle.message_writers.specs.DemandParts.{options-length}
-use borrow.Author.Rules.{rules}
 use Rattle.message_writers.proofs.u_location_update_demand.options_size.Goals as goal
 
 pub returns : goal.returns

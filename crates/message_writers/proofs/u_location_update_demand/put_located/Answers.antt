@@ -1,7 +1,6 @@
 -- `message_writers::u_location_update_demand::put_located` meets its contract. Assumes nothing.
 use Rattle.bits.specs.PutsLaws.{field, ◌⨾◌}
 use Rattle.message_writers.specs.DemandParts.{front-most}
-use borrow.Author.Rules.{rules}
 use Rattle.message_writers.proofs.u_location_update_demand.put_located.Goals as goal
 
 pub returns : goal.returns

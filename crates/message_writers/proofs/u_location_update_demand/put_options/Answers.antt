@@ -2,7 +2,6 @@
 use Rattle.bits.specs.PutsLaws.{field, ◌⨾◌}
 use Rattle.message_writers.specs.Parts.{addresses_most}
 use Rattle.message_writers.specs.DemandParts.{first-most}
-use borrow.Author.Rules.{rules}
 use Rattle.message_writers.proofs.u_location_update_demand.put_options.Goals as goal
 
 pub returns : goal.returns

@@ -2,7 +2,6 @@
 use mathlib.Core.Path.{sym, ap, ◌∙◌}
 use Rattle.messages.specs.declared.u_location_update_demand.DemandHead.{DemandHead}
 use Rattle.message_writers.specs.WritesLaws.{bit-one, bit-other}
-use borrow.Author.Rules.{rules}
 use Rattle.message_writers.proofs.u_location_update_demand.to_bitbuf.Goals as goal
 
 pub write_more-requires : goal.write_more-requires

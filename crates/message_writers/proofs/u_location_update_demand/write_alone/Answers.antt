@@ -7,7 +7,6 @@ use Rattle.messages.specs.Demand.{demand_more}
 use Rattle.messages.specs.declared.u_location_update_demand.ULocationUpdateDemand.{ULocationUpdateDemand}
 use Rattle.message_writers.specs.WritesLaws.{asking, message-written, message-refused}
 use Rattle.message_writers.specs.DemandParts.{demand_head_in, front-most, demand-in_parts, demand-alone-answered}
-use borrow.Author.Rules.{rules}
 use Rattle.message_writers.proofs.u_location_update_demand.write_alone.Goals as goal
 use Rattle.message_writers.proofs.u_location_update_demand.write_alone.Goals.{After-start-place}
 

@@ -5,7 +5,6 @@ use Rattle.bits.specs.PlacedLaws.{Fact, fact}
 use Rattle.message_writers.specs.WritesLaws.{asking, all-passed, message-written, message-refused}
 use Rattle.message_writers.specs.Parts.{four_asked}
 use Rattle.message_writers.specs.DemandParts.{demand-generics, demand-in_parts, demand-unlocated}
-use borrow.Author.Rules.{rules}
 use Rattle.message_writers.proofs.u_location_update_demand.write_more.Goals as goal
 use Rattle.message_writers.proofs.u_location_update_demand.write_more.Goals.{After-start-place}
 

@@ -5,7 +5,6 @@ use Rattle.bits.specs.Placed.{halted, left}
 use Rattle.bits.specs.declared.bitbuffer.Cursor.{Cursor}
 use Rattle.messages.specs.Questions.{first_no}
 use Rattle.message_writers.specs.Writes.{as_asked, begun}
-use borrow.Author.Rules.{rules}
 use Rattle.message_writers.proofs.questions.Answers.start.Goals as goal
 use Rattle.message_writers.proofs.questions.Answers.start.Goals.{After-first_no-n}
 
