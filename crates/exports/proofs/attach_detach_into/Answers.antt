@@ -1,0 +1,38 @@
+-- `exports::attach_detach_into` meets its contract. Assumes nothing.
+use native.Mathlib.Omega.{arith}
+use Rattle.messages.specs.Calls.{attach_detach}
+use Rattle.bits.specs.PlacedLaws.{Fact, fact}
+use Rattle.messages.specs.PlacedCalls.{own-attach_detach}
+use Rattle.exports.specs.ReadLaws.{filled-refused, filled-read}
+use borrow.Author.Rules.{rules}
+use Rattle.exports.proofs.attach_detach_into.Goals as goal
+use Rattle.exports.proofs.attach_detach_into.Goals.{In-Count}
+
+-- what a count tells
+abbrev counted : In-Count → Fact
+counted v =
+    let a = v.args in
+    fact (filled-read attach_detach own-attach_detach a.skipping a.octets.now a.c a.flat.now v.from_bitbuf-a.ensures v.in-Count.is)
+
+pub returns-in_default : goal.returns-in_default
+returns-in_default c =
+    let a = c.args in
+    filled-refused attach_detach own-attach_detach a.skipping a.octets.now a.c a.flat.now c.from_bitbuf-a.ensures c.in_default.is c.refusal.ensures
+
+pub overflow_mul-groups : goal.overflow_mul-groups
+overflow_mul-groups c = omega (arith, c.shown_downlinks-groups.ensures.1)
+
+pub overflow_add-groups : goal.overflow_add-groups
+overflow_add-groups c = omega (arith, c.shown_downlinks-groups.ensures.1)
+
+pub returns-then-flat-groups : goal.returns-then-flat-groups
+returns-then-flat-groups c = (counted ((goal.at.returns-then-flat-groups c).In-Count)).holds.short _ c.shown_downlinks-groups.ensures (omega arith)
+
+pub overflow_sub-result : goal.overflow_sub-result
+overflow_sub-result c = (counted ((goal.at.overflow_sub-result c).In-Count)).holds.on
+
+pub overflow_mul-result : goal.overflow_mul-result
+overflow_mul-result c = omega (arith, (counted ((goal.at.overflow_mul-result c).In-Count)).holds.few c.requires.1)
+
+pub returns : goal.returns
+returns c = (counted ((goal.at.returns c).In-Count)).holds.long _ c.shown_downlinks-groups.ensures (omega arith) _ c.put_attach_detach.ensures.octets

@@ -1,0 +1,8 @@
+-- `exports::flat::put_attachment` meets its contract. Assumes nothing.
+use Rattle.exports.specs.FlatLaws.{◌⨟◌}
+use borrow.Author.Rules.{rules}
+use Rattle.exports.proofs.flat.put_attachment.Goals as goal
+
+pub returns : goal.returns
+returns c =
+    c.put_flag-a.ensures ⨟ c.put_field-b.ensures ⨟ c.put_field.ensures

@@ -1,0 +1,8 @@
+-- `exports::flat::put_demand_options` meets its contract. Assumes nothing.
+use Rattle.exports.specs.FlatLaws.{◌⨟◌}
+use borrow.Author.Rules.{rules}
+use Rattle.exports.proofs.flat.put_demand_options.Goals as goal
+
+pub returns : goal.returns
+returns c =
+    c.put_field-a.ensures ⨟ c.put_field-b.ensures ⨟ c.put_field-d.ensures ⨟ c.put_field.ensures

@@ -1,0 +1,35 @@
+-- `exports::rewrite_attach_detach` meets its contract. Assumes nothing.
+use mathlib.Core.Path.{sym, ◌∙◌}
+use Rattle.bits.specs.PlacedLaws.{Fact, fact}
+use Rattle.messages.specs.Head.{d_attach_detach_group_identity_type}
+use Rattle.messages.specs.PlacedCalls.{own-attach_detach}
+use Rattle.exports.specs.RewriteLaws.{rewrite_refused, rewrite_taken, rewrite_bad, written-most}
+use borrow.Author.Rules.{rules}
+use Rattle.exports.proofs.rewrite_attach_detach.Goals as goal
+use Rattle.exports.proofs.rewrite_attach_detach.Goals.{Then-is_good_call}
+
+-- question 1 of the reading is passed
+abbrev good : Then-is_good_call → Fact
+good c = fact (sym c.is_good_call.ensures ∙ c.if-is_good_call.true)
+
+pub returns-in_default : goal.returns-in_default
+returns-in_default c =
+    let a = c.args in
+    rewrite_refused d_attach_detach_group_identity_type a.octets.now a.first a.end a.out.now a.out_first a.out_end own-attach_detach (good ((goal.at.returns-in_default c).Then-is_good_call)).holds
+    c.from_bitbuf-a.ensures c.in_default.is c.refusal.ensures
+
+pub result_of-requires : goal.result_of-requires
+result_of-requires c =
+    rw c.write_attach_detach.ensures.answer (written-most d_attach_detach_group_identity_type _ _ _ _)
+
+pub returns-then-is_good_call : goal.returns-then-is_good_call
+returns-then-is_good_call c =
+    let a = c.args in
+    let r = rewrite_taken d_attach_detach_group_identity_type a.octets.now a.first a.end a.out.now a.out_first a.out_end own-attach_detach (good ((goal.at.returns-then-is_good_call c).Then-is_good_call)).holds
+    c.from_bitbuf-a.ensures c.in-Count.is c.write_attach_detach.ensures.answer c.write_attach_detach.ensures.octets in
+    record { result = c.result_of.ensures ∙ r.0; octets = r.1 }
+
+pub returns : goal.returns
+returns c =
+    let a = c.args in
+    rewrite_bad d_attach_detach_group_identity_type a.octets.now a.first a.end a.out.now a.out_first a.out_end (sym c.is_good_call.ensures ∙ c.if-is_good_call.false)

@@ -1,0 +1,22 @@
+-- `exports::tetra_mm_rewrite` meets its contract. Assumes nothing.
+use Rattle.exports.specs.RewriteLaws.{rewrite_unknown}
+use borrow.Author.Tests.{ne_eqb}
+use borrow.Author.Rules.{rules}
+use Rattle.exports.proofs.tetra_mm_rewrite.Goals as goal
+
+pub returns-then-message-eq-DEMAND : goal.returns-then-message-eq-DEMAND
+returns-then-message-eq-DEMAND c =
+    rw c.if-message-eq-DEMAND.true c.rewrite_demand.ensures
+
+pub returns-then-message-eq-ACCEPT : goal.returns-then-message-eq-ACCEPT
+returns-then-message-eq-ACCEPT c =
+    rw c.if-message-eq-ACCEPT.true c.rewrite_accept.ensures
+
+pub returns-then-message-eq-ATTACH_DETACH : goal.returns-then-message-eq-ATTACH_DETACH
+returns-then-message-eq-ATTACH_DETACH c =
+    rw c.if-message-eq-ATTACH_DETACH.true c.rewrite_attach_detach.ensures
+
+pub returns : goal.returns
+returns c =
+    let a = c.args in
+    rewrite_unknown a.message a.octets.now a.first a.end a.out.now a.out_first a.out_end (ne_eqb _ _ c.if-message-eq-DEMAND.false) (ne_eqb _ _ c.if-message-eq-ACCEPT.false) (ne_eqb _ _ c.if-message-eq-ATTACH_DETACH.false)

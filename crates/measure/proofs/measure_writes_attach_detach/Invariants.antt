@@ -1,0 +1,17 @@
+-- `measure::measure_writes_attach_detach` meets its contract. The loop's invariant: so many calls are done. Assumes nothing.
+use Prim.Native.Nat.{◌≤◌, ◌-◌}
+use native.Mathlib.Omega.{arith}
+use mathlib.Core.Path.{◌≡◌, refl}
+use lib.ListN.{length}
+use Rattle.messages.specs.Head.{d_attach_detach_group_identity_type}
+use Rattle.messages.specs.Calls.{of_attach_detach}
+use Rattle.measure.specs.Repeated.{Turned, unturned, turned}
+use borrow.Author.Rules.{rules}
+use Rattle.measure.proofs.measure_writes_attach_detach.Given as goal
+
+abbrev pub invariant-loop-i : goal.invariant-loop-i
+invariant-loop-i l =
+    (l.i ≤ l.times) × (length l.octets ≡ length l.initial.octets) × Turned d_attach_detach_group_identity_type l.first l.end (of_attach_detach l.d) l.i l.initial.octets l.bits l.octets
+
+abbrev pub decreases-loop-i : goal.decreases-loop-i
+decreases-loop-i l = l.times - l.i
