@@ -1,5 +1,5 @@
 /* The reader and rewriter of three messages of TETRA mobility management, as libexports.a has them
- * (`rt staticlib exports`). */
+ * (`host/run library`). */
 #ifndef TETRA_MM_H
 #define TETRA_MM_H
 

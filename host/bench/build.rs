@@ -1,4 +1,4 @@
-//! Links the static library that `rt staticlib measure` writes at the repository's root.
+//! Links the static library of the crate measure, which `host/run bench` writes.
 
 fn main() {
     let folder = concat!(env!("CARGO_MANIFEST_DIR"), "/../../target/staticlib");

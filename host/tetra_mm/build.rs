@@ -1,4 +1,4 @@
-//! Links the static library that `rt staticlib exports` writes at the repository's root.
+//! Links the static library of the crate exports_c, which `host/run library` writes.
 
 fn main() {
     let folder = concat!(env!("CARGO_MANIFEST_DIR"), "/../../target/staticlib");

@@ -1,4 +1,5 @@
-// The library as it is linked: reading into a flat buffer, and rewriting (document 01, 'What must change shape').
+// The library's calls: reading into a flat buffer, and rewriting (document 01, 'What must change shape'). The crate exports_c
+// exports them for linking.
 #![tactic(auto)]
 
 pub mod flat;
@@ -88,8 +89,7 @@ fn attach_detach_into(octets: &[u8], c: Cursor, skipping: bool, flat: &mut [u8])
 }
 
 // A reading call into a flat buffer: 64 × the bits consumed, plus the refusal's number.
-#[unsafe(no_mangle)]
-pub extern "C" fn tetra_mm_read(
+pub fn tetra_mm_read(
     message: u64,
     wanted: u64,
     octets: &[u8],
@@ -214,8 +214,7 @@ fn rewrite_attach_detach(
 
 // A rewriting: the strict reading in one window, and its record written to a second; 64 × the bits written, plus the number of
 // the first refusal met.
-#[unsafe(no_mangle)]
-pub extern "C" fn tetra_mm_rewrite(
+pub fn tetra_mm_rewrite(
     message: u64,
     octets: &[u8],
     first: u64,
