@@ -4,7 +4,6 @@ use Rattle.messages.specs.Calls.{demand}
 use Rattle.bits.specs.PlacedLaws.{Fact, fact}
 use Rattle.messages.specs.PlacedCalls.{own-demand}
 use Rattle.exports.specs.ReadLaws.{filled-refused, filled-read}
-use borrow.Author.Rules.{rules}
 use Rattle.exports.proofs.demand_into.Goals as goal
 use Rattle.exports.proofs.demand_into.Goals.{In-Count}
 
@@ -17,7 +16,8 @@ counted v =
 pub returns-in_default : goal.returns-in_default
 returns-in_default c =
     let a = c.args in
-    filled-refused demand own-demand a.skipping a.octets.now a.c a.flat.now c.from_bitbuf-a.ensures c.in_default.is c.refusal.ensures
+    let r = filled-refused demand own-demand a.skipping a.octets.now a.c a.flat.now c.from_bitbuf-a.ensures c.in_default.is c.refusal.ensures in
+    record { result = r.0; buffer = r.1 }
 
 pub overflow_mul-groups : goal.overflow_mul-groups
 overflow_mul-groups c = omega (arith, c.shown_uplinks-groups.ensures.1)
@@ -26,7 +26,9 @@ pub overflow_add-groups : goal.overflow_add-groups
 overflow_add-groups c = omega (arith, c.shown_uplinks-groups.ensures.1)
 
 pub returns-then-flat-groups : goal.returns-then-flat-groups
-returns-then-flat-groups c = (counted ((goal.at.returns-then-flat-groups c).In-Count)).holds.short _ c.shown_uplinks-groups.ensures (omega arith)
+returns-then-flat-groups c =
+    let r = (counted ((goal.at.returns-then-flat-groups c).In-Count)).holds.short _ c.shown_uplinks-groups.ensures (omega arith) in
+    record { result = r.0; buffer = r.1 }
 
 pub overflow_sub-result : goal.overflow_sub-result
 overflow_sub-result c = (counted ((goal.at.overflow_sub-result c).In-Count)).holds.on
@@ -35,4 +37,6 @@ pub overflow_mul-result : goal.overflow_mul-result
 overflow_mul-result c = omega (arith, (counted ((goal.at.overflow_mul-result c).In-Count)).holds.few c.requires.1)
 
 pub returns : goal.returns
-returns c = (counted ((goal.at.returns c).In-Count)).holds.long _ c.shown_uplinks-groups.ensures (omega arith) _ c.put_demand.ensures.octets
+returns c =
+    let r = (counted ((goal.at.returns c).In-Count)).holds.long _ c.shown_uplinks-groups.ensures (omega arith) _ c.put_demand.ensures.octets in
+    record { result = r.0; buffer = r.1 }

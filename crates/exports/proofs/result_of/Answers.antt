@@ -1,5 +1,4 @@
 -- `exports::result_of` meets its contract. Assumes nothing.
-use borrow.Author.Rules.{rules}
 use Rattle.exports.proofs.result_of.Goals as goal
 
 pub returns-in_default : goal.returns-in_default

@@ -4,7 +4,6 @@ use Rattle.bits.specs.PlacedLaws.{Fact, fact}
 use Rattle.messages.specs.Head.{d_attach_detach_group_identity_type}
 use Rattle.messages.specs.PlacedCalls.{own-attach_detach}
 use Rattle.exports.specs.RewriteLaws.{rewrite_refused, rewrite_taken, rewrite_bad, written-most}
-use borrow.Author.Rules.{rules}
 use Rattle.exports.proofs.rewrite_attach_detach.Goals as goal
 use Rattle.exports.proofs.rewrite_attach_detach.Goals.{Then-is_good_call}
 
@@ -15,8 +14,9 @@ good c = fact (sym c.is_good_call.ensures ∙ c.if-is_good_call.true)
 pub returns-in_default : goal.returns-in_default
 returns-in_default c =
     let a = c.args in
-    rewrite_refused d_attach_detach_group_identity_type a.octets.now a.first a.end a.out.now a.out_first a.out_end own-attach_detach (good ((goal.at.returns-in_default c).Then-is_good_call)).holds
-    c.from_bitbuf-a.ensures c.in_default.is c.refusal.ensures
+    let r = rewrite_refused d_attach_detach_group_identity_type a.octets.now a.first a.end a.out.now a.out_first a.out_end own-attach_detach (good ((goal.at.returns-in_default c).Then-is_good_call)).holds
+    c.from_bitbuf-a.ensures c.in_default.is c.refusal.ensures in
+    record { result = r.0; octets = r.1 }
 
 pub result_of-requires : goal.result_of-requires
 result_of-requires c =
@@ -32,4 +32,5 @@ returns-then-is_good_call c =
 pub returns : goal.returns
 returns c =
     let a = c.args in
-    rewrite_bad d_attach_detach_group_identity_type a.octets.now a.first a.end a.out.now a.out_first a.out_end (sym c.is_good_call.ensures ∙ c.if-is_good_call.false)
+    let r = rewrite_bad d_attach_detach_group_identity_type a.octets.now a.first a.end a.out.now a.out_first a.out_end (sym c.is_good_call.ensures ∙ c.if-is_good_call.false) in
+    record { result = r.0; octets = r.1 }

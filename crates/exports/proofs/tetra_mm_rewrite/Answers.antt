@@ -1,7 +1,6 @@
 -- `exports::tetra_mm_rewrite` meets its contract. Assumes nothing.
 use Rattle.exports.specs.RewriteLaws.{rewrite_unknown}
 use borrow.Author.Tests.{ne_eqb}
-use borrow.Author.Rules.{rules}
 use Rattle.exports.proofs.tetra_mm_rewrite.Goals as goal
 
 pub returns-then-message-eq-DEMAND : goal.returns-then-message-eq-DEMAND
@@ -19,4 +18,5 @@ returns-then-message-eq-ATTACH_DETACH c =
 pub returns : goal.returns
 returns c =
     let a = c.args in
-    rewrite_unknown a.message a.octets.now a.first a.end a.out.now a.out_first a.out_end (ne_eqb _ _ c.if-message-eq-DEMAND.false) (ne_eqb _ _ c.if-message-eq-ACCEPT.false) (ne_eqb _ _ c.if-message-eq-ATTACH_DETACH.false)
+    let r = rewrite_unknown a.message a.octets.now a.first a.end a.out.now a.out_first a.out_end (ne_eqb _ _ c.if-message-eq-DEMAND.false) (ne_eqb _ _ c.if-message-eq-ACCEPT.false) (ne_eqb _ _ c.if-message-eq-ATTACH_DETACH.false) in
+    record { result = r.0; octets = r.1 }

@@ -2,7 +2,6 @@
 use mathlib.Core.Path.{sym, ap, ◌∙◌}
 use Rattle.bits.specs.Placed.{as_field}
 use Rattle.measure.specs.Measured.{value_or_refusal}
-use borrow.Author.Rules.{rules}
 use Rattle.measure.proofs.measure_read.Goals as goal
 
 pub returns-in-Value : goal.returns-in-Value

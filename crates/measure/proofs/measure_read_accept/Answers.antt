@@ -5,7 +5,6 @@ use Rattle.bits.specs.PlacedLaws.{Fact, fact}
 use Rattle.messages.specs.Head.{d_location_update_accept_type}
 use Rattle.messages.specs.PlacedCalls.{own-accept}
 use Rattle.measure.specs.MeasuredLaws.{measured_bad, measured-refused, measured-read}
-use borrow.Author.Rules.{rules}
 use Rattle.measure.proofs.measure_read_accept.Goals as goal
 use Rattle.measure.proofs.measure_read_accept.Goals.{In-Count}
 

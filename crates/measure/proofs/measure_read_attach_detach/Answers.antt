@@ -5,7 +5,6 @@ use Rattle.bits.specs.PlacedLaws.{Fact, fact}
 use Rattle.messages.specs.Head.{d_attach_detach_group_identity_type}
 use Rattle.messages.specs.PlacedCalls.{own-attach_detach}
 use Rattle.measure.specs.MeasuredLaws.{measured_bad, measured-refused, measured-read}
-use borrow.Author.Rules.{rules}
 use Rattle.measure.proofs.measure_read_attach_detach.Goals as goal
 use Rattle.measure.proofs.measure_read_attach_detach.Goals.{In-Count}
 

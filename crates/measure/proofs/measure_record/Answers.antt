@@ -1,7 +1,6 @@
 -- `measure::measure_record` meets its contract. Assumes nothing.
 use mathlib.Core.Path.{ap}
 use Rattle.messages.specs.declared.Reading.{Reading}
-use borrow.Author.Rules.{rules}
 use Rattle.measure.proofs.measure_record.Goals as goal
 
 pub returns : goal.returns

@@ -1,7 +1,6 @@
 -- `measure::measure_write` meets its contract. Assumes nothing.
 use mathlib.Core.Path.{ap, ◌∙◌}
 use Rattle.bits.specs.Placed.{refusal}
-use borrow.Author.Rules.{rules}
 use Rattle.measure.proofs.measure_write.Goals as goal
 
 pub returns : goal.returns

@@ -1,7 +1,6 @@
 -- `measure::measure_write_accept` meets its contract. Assumes nothing.
 use mathlib.Core.Path.{ap}
 use Rattle.messages.specs.declared.Writing.{Writing}
-use borrow.Author.Rules.{rules}
 use Rattle.measure.proofs.measure_write_accept.Goals as goal
 
 pub returns : goal.returns

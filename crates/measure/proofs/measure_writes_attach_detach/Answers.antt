@@ -1,11 +1,7 @@
 -- `measure::measure_writes_attach_detach` meets its contract. The loop's invariant: so many calls are done. Assumes nothing.
-use Prim.Native.Nat.{◌≤◌, ◌-◌}
 use native.Mathlib.Omega.{arith}
 use mathlib.Core.Path.{◌≡◌, refl}
-use lib.ListN.{length}
-use Rattle.messages.specs.Head.{d_attach_detach_group_identity_type}
-use Rattle.messages.specs.Calls.{of_attach_detach}
-use Rattle.measure.specs.Repeated.{Turned, unturned, turned}
+use Rattle.measure.specs.Repeated.{unturned, turned}
 use borrow.Author.Rules.{rules}
 use Rattle.measure.proofs.measure_writes_attach_detach.Goals as goal
 
@@ -24,4 +20,4 @@ pub returns : goal.returns
 returns c =
     let l = c.loop-i in
     let all : l.i ≡ c.args.times = omega arith in
-    rw (← all) (l.invariant.2.bits, l.invariant.2.octets)
+    rw (← all) (record { bits = l.invariant.2.bits; octets = l.invariant.2.octets })

@@ -1,12 +1,10 @@
 -- `measure::measure_writes_demand` meets its contract. The loop's invariant: so many calls are done. Assumes nothing.
 use Prim.Native.Nat.{◌≤◌, ◌-◌}
-use native.Mathlib.Omega.{arith}
-use mathlib.Core.Path.{◌≡◌, refl}
+use mathlib.Core.Path.{◌≡◌}
 use lib.ListN.{length}
 use Rattle.messages.specs.Head.{u_location_update_demand_type}
 use Rattle.messages.specs.Calls.{of_demand}
-use Rattle.measure.specs.Repeated.{Turned, unturned, turned}
-use borrow.Author.Rules.{rules}
+use Rattle.measure.specs.Repeated.{Turned}
 use Rattle.measure.proofs.measure_writes_demand.Given as goal
 
 abbrev pub invariant-loop-i : goal.invariant-loop-i

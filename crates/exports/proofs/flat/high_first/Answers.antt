@@ -1,6 +1,5 @@
 -- `exports::flat::high_first` meets its contract. Assumes nothing.
 use native.Mathlib.Nat.{div-one}
-use borrow.Author.Rules.{rules}
 use Rattle.exports.proofs.flat.high_first.Goals as goal
 
 pub returns : goal.returns

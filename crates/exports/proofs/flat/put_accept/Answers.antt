@@ -4,7 +4,6 @@ use mathlib.Core.Path.{refl}
 use mathlib.Core.Bool.{◌&&◌}
 use Rattle.exports.specs.Flat.{flat_downlink, flat_accept}
 use Rattle.exports.specs.FlatLaws.{◌⨟◌, length-shown}
-use borrow.Author.Rules.{rules}
 use Rattle.exports.proofs.flat.put_accept.Goals as goal
 
 pub put_accept_generics-requires : goal.put_accept_generics-requires

@@ -3,7 +3,6 @@ use native.Mathlib.Omega.{arith}
 use mathlib.Core.Path.{refl}
 use Rattle.exports.specs.Flat.{flat_downlink, flat_attach_detach}
 use Rattle.exports.specs.FlatLaws.{◌⨟◌, length-shown}
-use borrow.Author.Rules.{rules}
 use Rattle.exports.proofs.flat.put_attach_detach.Goals as goal
 
 pub put_type4-requires : goal.put_type4-requires

@@ -8,6 +8,14 @@ use Rattle.exports.specs.FlatLaws.{◌⨟◌, length-shown}
 use borrow.Author.Rules.{rules}
 use Rattle.exports.proofs.flat.put_demand.Goals as goal
 
+pub put_demand_options-d-requires : goal.put_demand_options-d-requires
+unfolding each
+put_demand_options-d-requires c = search rules
+
+pub put_location_demand-e-requires : goal.put_location_demand-e-requires
+unfolding each
+put_location_demand-e-requires c = search rules
+
 pub put_demand_generics-requires : goal.put_demand_generics-requires
 unfolding each
 put_demand_generics-requires c =

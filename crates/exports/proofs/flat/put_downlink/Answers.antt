@@ -1,6 +1,5 @@
 -- `exports::flat::put_downlink` meets its contract. Assumes nothing.
 use Rattle.exports.specs.FlatLaws.{◌⨟◌}
-use borrow.Author.Rules.{rules}
 use Rattle.exports.proofs.flat.put_downlink.Goals as goal
 
 pub returns : goal.returns

@@ -1,10 +1,7 @@
 -- `exports::flat::put_downlinks` meets its contract. The loop's invariant: the groups so far are put. Assumes nothing.
 use Prim.Native.Nat.{◌-◌}
-use native.Mathlib.Omega.{arith}
-use mathlib.Core.Path.{refl}
-use borrow.Author.Rules.{rules}
 use Rattle.exports.specs.Flat.{flat_downlink}
-use Rattle.exports.specs.FlatLaws.{Shown, shown_none, shown-more, shown-put}
+use Rattle.exports.specs.FlatLaws.{Shown}
 use Rattle.exports.proofs.flat.put_downlinks.Given as goal
 
 abbrev pub invariant-loop-i : goal.invariant-loop-i

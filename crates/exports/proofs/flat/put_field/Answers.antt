@@ -4,7 +4,6 @@ use mathlib.Core.Path.{◌≡◌, refl, ◌∙◌}
 use Prim.Native.Nat.{suc, ◌+◌}
 use lib.ListN.{length-set}
 use Rattle.exports.specs.FlatLaws.{put}
-use borrow.Author.Rules.{rules}
 use Rattle.exports.proofs.flat.put_field.Goals as goal
 
 pub put_number-requires : goal.put_number-requires

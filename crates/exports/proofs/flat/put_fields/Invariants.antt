@@ -1,11 +1,7 @@
 -- `exports::flat::put_fields` meets its contract. The loop's invariant: the fields so far are put. Assumes nothing.
 use Prim.Native.Nat.{◌-◌}
-use native.Mathlib.Omega.{arith}
-use mathlib.Core.Path.{refl}
-use lib.Seq.{take_all}
-use borrow.Author.Rules.{rules}
 use Rattle.exports.specs.Flat.{flat_field}
-use Rattle.exports.specs.FlatLaws.{Shown, shown_none, shown-more}
+use Rattle.exports.specs.FlatLaws.{Shown}
 use Rattle.exports.proofs.flat.put_fields.Given as goal
 
 abbrev pub invariant-loop-i : goal.invariant-loop-i

@@ -1,7 +1,6 @@
 -- `exports::flat::put_flag` meets its contract. Assumes nothing.
 use mathlib.Core.Path.{refl}
 use Rattle.exports.specs.FlatLaws.{put}
-use borrow.Author.Rules.{rules}
 use Rattle.exports.proofs.flat.put_flag.Goals as goal
 
 pub returns : goal.returns

@@ -1,11 +1,9 @@
 -- `exports::flat::put_location_demand` meets its contract. The loop's invariant: the groups so far are put. Assumes nothing.
-use Prim.Native.Nat.{◌-◌}
 use native.Mathlib.Omega.{arith}
 use mathlib.Core.Path.{refl}
 use mathlib.Core.Bool.{◌&&◌}
-use borrow.Author.Rules.{rules}
 use Rattle.exports.specs.Flat.{flat_uplink}
-use Rattle.exports.specs.FlatLaws.{◌⨟◌, Shown, shown_none, shown-more, shown-put}
+use Rattle.exports.specs.FlatLaws.{◌⨟◌, shown_none, shown-more, shown-put}
 use Rattle.exports.proofs.flat.put_location_demand.Goals as goal
 
 pub loop-i-init : goal.loop-i-init

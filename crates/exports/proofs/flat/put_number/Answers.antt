@@ -1,11 +1,10 @@
 -- `exports::flat::put_number` meets its contract. The loop's invariant: the octets that are left make the whole number. Assumes nothing.
-use Prim.Native.Nat.{◌+◌, ◌-◌, ◌≤◌}
+use Prim.Native.Nat.{◌+◌, ◌≤◌}
 use native.Mathlib.Omega.{arith}
 use mathlib.Core.Path.{◌≡◌, refl, sym, ◌∙◌, ap}
 use mathlib.Core.List.{[]}
 use lib.ListN.{length, length-set, drop, drop_of_length-le}
 use lib.Seq.{sets}
-use borrow.Author.Rules.{rules}
 use Rattle.exports.specs.FlatLaws.{octet_turn}
 use Rattle.exports.proofs.flat.put_number.Goals as goal
 

@@ -1,6 +1,5 @@
 -- `exports::flat::put_uplink` meets its contract. Assumes nothing.
 use Rattle.exports.specs.FlatLaws.{◌⨟◌}
-use borrow.Author.Rules.{rules}
 use Rattle.exports.proofs.flat.put_uplink.Goals as goal
 
 pub returns : goal.returns

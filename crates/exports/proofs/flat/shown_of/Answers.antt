@@ -1,6 +1,5 @@
 -- `exports::flat::shown_of` meets its contract. Assumes nothing.
 use native.Mathlib.Omega.{arith}
-use borrow.Author.Rules.{rules}
 use Rattle.exports.proofs.flat.shown_of.Goals as goal
 
 pub returns-then-present : goal.returns-then-present

@@ -1,10 +1,7 @@
 -- `exports::flat::shown_uplinks` meets its contract. Assumes nothing.
-use mathlib.Core.Path.{sym, ◌∙◌}
-use lib.ListN.{length-map}
-use borrow.Author.Rules.{rules}
 use Rattle.exports.proofs.flat.shown_uplinks.Goals as goal
 
 pub returns : goal.returns
 returns c =
-    let s = c.Shown-of.ensures in
+    let s = c.shown_of.ensures in
     (s.0, s.1, c.well_formed.1.0.1.1.1.1.0.1.0.1)
