@@ -11,7 +11,7 @@ use Rattle.bits.specs.PutsLaws.{Puts, nothing, ◌⨾◌, joined-append}
 use Rattle.elements.specs.Numbers.{held, is_present, option_bits, flag_width}
 use Rattle.elements.specs.Groups.{Form, Address, form_of, type_of, address_type_width, address_width, address_bits, detachment_width, kind_of, group_bits, class_of_usage_width, lifetime_width, uplink_forms, uplink_class, uplink_detachment, uplink_address_in, uplink_bits, downlink_forms, attachment_bits, downlink_attachment, downlink_detachment, downlink_address_in, downlink_bits}
 use Rattle.elements.specs.Lists.{each}
-use Rattle.elements.specs.EachLaws.{each_more}
+use Rattle.elements.proofs.EachLaws.{each_more}
 use Rattle.elements.specs.declared.group_identity_attachment.GroupIdentityAttachment.{GroupIdentityAttachment}
 use Rattle.elements.specs.declared.group_identity_uplink.GroupIdentityUplink.{GroupIdentityUplink}
 use Rattle.elements.specs.declared.group_identity_downlink.GroupIdentityDownlink.{GroupIdentityDownlink}

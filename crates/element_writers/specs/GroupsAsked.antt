@@ -13,7 +13,7 @@ use Rattle.bits.specs.BitsLaws.{length_digits}
 use Rattle.elements.specs.Numbers.{held, is_present, option_bits, option_all, in_width, flag_width}
 use Rattle.elements.specs.Groups.{Form, Address, address_width, address_type_width, address_bits, form_of, type_of, listed_form, uplink_forms, downlink_forms, kind_of, detachment_width, lifetime_width, class_of_usage_width, attachment_bits, attachment_fits, group_bits}
 use Rattle.elements.specs.Generics.{entries_width}
-use Rattle.elements.specs.EachLaws.{each_more, take-most}
+use Rattle.elements.proofs.EachLaws.{each_more, take-most}
 use Rattle.elements.specs.Lists.{Groups, downlinks, list_as, each, all, list_bits, list_held, list_fits, list_one, list_listed}
 use Rattle.elements.specs.declared.group_identity_attachment.GroupIdentityAttachment.{GroupIdentityAttachment}
 use Rattle.elements.specs.declared.group_address.GroupAddress.{GroupAddress}

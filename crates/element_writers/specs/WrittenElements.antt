@@ -17,7 +17,7 @@ use Rattle.bits.specs.PutsLaws.{Puts, one, ◌⨾◌, joined-append}
 use Rattle.elements.specs.Table.{mbit_width, identifier_width, length_width}
 use Rattle.elements.specs.TableWritten.{element_bits, table_bits}
 use Rattle.elements.specs.Numbers.{held, option_bits, option_all, flag_width, announced}
-use Rattle.elements.specs.NumbersLaws.{both}
+use Rattle.elements.proofs.NumbersLaws.{both}
 use Rattle.elements.specs.Generics.{entries_width, type3_bits, type3_fits}
 use Rattle.elements.specs.Kinds.{type3_held}
 use Rattle.elements.specs.Lists.{Groups, downlinks, each, list_bits, list_held}

@@ -11,7 +11,7 @@ use lib.Seq.{drop-cons}
 use Rattle.elements.specs.Table.{is_listed}
 use Rattle.elements.specs.Kinds.{identifier_of}
 use Rattle.elements.specs.Rows.{row_of, rows_of, slots_from}
-use Rattle.elements.specs.EachLaws.{take-most}
+use Rattle.elements.proofs.EachLaws.{take-most}
 use Rattle.elements.specs.declared.typed_pdu_fields.Row.{Row}
 use Rattle.elements.specs.declared.typed_pdu_fields.Table.{Table}
 

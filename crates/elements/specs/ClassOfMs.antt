@@ -1,5 +1,5 @@
 -- Class of MS (EN 300 392-2, clause 16.10.5): 24 bits, top bit first, the 22 fields in order.
-use Rattle.std.specs.Prelude.{ℕ, Bool, true, ◌&&◌, List, [], ◌∷◌, ◌++◌, get_or}
+use Rattle.std.specs.Prelude.{ℕ, ◌+◌, ◌/◌, ◌%◌, ◌^◌, Bool, true, ◌&&◌, List, [], ◌∷◌, ◌++◌, get_or}
 use Rattle.std.proofs.Math.Option.{Option}
 use Rattle.bits.specs.Bits.{Bits, digits}
 use Rattle.bits.specs.Reader.{Reader, got, then, ◌>>=◌, field}
@@ -80,3 +80,14 @@ class_bits m = numbers_bits class_widths (class_fields m)
 -- QUESTION 8
 unfoldable pub class_fits : ClassOfMs → Bool
 class_fits m = numbers_fit class_widths (class_fields m)
+
+-- ## numbers as parts of one word
+
+unfoldable pub sum : List ℕ → ℕ
+sum [] = 0
+sum (w ∷ ws) = w + sum ws
+
+-- the numbers of given widths that stand in the number v, the last one lowest
+unfoldable pub split : List ℕ → ℕ → List ℕ
+split [] v = []
+split (w ∷ ws) v = v / 2 ^ sum ws % 2 ^ w ∷ split ws v

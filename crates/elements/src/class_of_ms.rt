@@ -3,7 +3,7 @@ ghost use Rattle.std.specs.Prelude.{◌≡◌};
 ghost use Rattle.bits.specs.Placed.{at, refusal};
 ghost use Rattle.elements.specs.Numbers.{type2_as};
 ghost use Rattle.elements.specs.ClassOfMs.{class_of, class_widths, no_class, class_option, class_of_ms_element};
-ghost use Rattle.elements.specs.ClassOfMsLaws.{split};
+ghost use Rattle.elements.specs.ClassOfMs.{split};
 ghost use Rattle.elements.specs.GroupAnswers.{as_class};
 
 use bits::bitbuffer::{Cursor, Field8, Field32};

@@ -8,7 +8,7 @@ use Rattle.std.proofs.Math.ListN.{length, length-append}
 use Rattle.std.proofs.lemmas.List.Edits.{sets}
 use Rattle.std.proofs.Math.Seq.{length-sets}
 use Rattle.elements.specs.Lists.{each}
-use Rattle.elements.specs.EachLaws.{each_more, take-most}
+use Rattle.elements.proofs.EachLaws.{each_more, take-most}
 use Rattle.exports.specs.Flat.{shown}
 
 -- the octets xs are put into f from `at` on, which makes g; `to` is the place behind them

@@ -14,8 +14,9 @@ use Rattle.elements.specs.Table.{Counted}
 use Rattle.elements.specs.declared.typed_pdu_fields.Skipped.{Skipped}
 use Rattle.elements.specs.declared.typed_pdu_fields.Skipped.TheVariants as S
 use Rattle.messages.specs.Calls.{Message, demand, accept, attach_detach, message_of, good_call, window_of, read_message, reading_of, no_reading, reading}
-use Rattle.messages.specs.MessageLaws.{FullList}
-use Rattle.messages.specs.PlacedCalls.{accepted, called, Own, taken, not_taken, good_call_lem, bad_call_lem, good_window_lem}
+use Rattle.messages.proofs.MessageLaws.{FullList}
+use Rattle.messages.proofs.PlacedCalls.{Own, taken, not_taken, good_call_lem, bad_call_lem, good_window_lem}
+use Rattle.messages.specs.Calls.{accepted, called}
 use Rattle.messages.specs.declared.Record.{Record}
 use Rattle.messages.specs.declared.Reading.{Reading}
 use Rattle.exports.specs.Flat.{flat_uplink, flat_downlink, flat_demand_generics, flat_demand, flat_accept_generics, flat_accept, flat_type4, flat_attach_detach, shown, shown_uplinks, shown_downlinks, flat_form, read_result, read_buffer}

@@ -2,7 +2,7 @@
 use Rattle.std.specs.Prelude.{ℕ, ◌%◌, ◌≤◌, ◌<◌, ◌≡◌, refl, ◌⊎◌, Bool, true, false, List, length, leb}
 use Rattle.std.proofs.Common.{arith, inl, inr}
 use Rattle.messages.specs.Calls.{message_of, reading}
-use Rattle.messages.specs.CallNumbers.{reading-refused}
+use Rattle.messages.proofs.CallNumbers.{reading-refused}
 use Rattle.messages.specs.declared.Reading.{Reading}
 use Rattle.messages.specs.declared.Verdict.{Verdict}
 use Rattle.messages.specs.declared.Verdict.TheVariants.{Accepted, Refused}

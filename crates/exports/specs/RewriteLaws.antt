@@ -10,9 +10,9 @@ use Rattle.elements.specs.declared.typed_pdu_fields.Skipped.{Skipped}
 use Rattle.elements.specs.declared.typed_pdu_fields.Skipped.TheVariants as S
 use Rattle.messages.specs.Head.{u_location_update_demand_type, d_location_update_accept_type, d_attach_detach_group_identity_type}
 use Rattle.messages.specs.Calls.{message_of, read_message, known, octets_most, good_window, good_call, message_bits, message_asked, no_reading, reading, writing_refusal, writing, writing_of, octets_written}
-use Rattle.messages.specs.PlacedCalls.{Own, call_taken, call_refused, bad_call_lem, good_window_lem}
+use Rattle.messages.proofs.PlacedCalls.{Own, call_taken, call_refused, bad_call_lem, good_window_lem}
 use Rattle.messages.specs.Questions.{first_no}
-use Rattle.messages.specs.RoundTrip.{passed}
+use Rattle.messages.proofs.RoundTrip.{passed}
 use Rattle.messages.specs.declared.Record.{Record}
 use Rattle.messages.specs.declared.Writing.{Writing}
 use Rattle.exports.specs.Rewrite.{writing_result, rewrite_result, rewrite_octets}

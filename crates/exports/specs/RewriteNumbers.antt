@@ -3,7 +3,7 @@ use Rattle.std.specs.Prelude.{ℕ, ◌%◌, ◌≤◌, ◌<◌, ◌≡◌, true,
 use Rattle.std.proofs.Common.{arith, ⊎_elim}
 use Rattle.std.proofs.Math.Path.{refl}
 use Rattle.messages.specs.Calls.{reading, writing, octets_written}
-use Rattle.messages.specs.CallNumbers.{reading-refused, writing-refused}
+use Rattle.messages.proofs.CallNumbers.{reading-refused, writing-refused}
 use Rattle.messages.specs.declared.Reading.{Reading}
 use Rattle.messages.specs.declared.Writing.{Writing}
 use Rattle.messages.specs.declared.Verdict.{Verdict}

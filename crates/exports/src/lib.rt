@@ -7,7 +7,7 @@ pub mod flat;
 ghost use Rattle.std.specs.Prelude.{◌≡◌, ◌≤◌};
 ghost use Rattle.messages.specs.Calls.{demand, accept, attach_detach, message_of, reading};
 ghost use Rattle.messages.specs.Head.{u_location_update_demand_type, d_location_update_accept_type, d_attach_detach_group_identity_type};
-ghost use Rattle.messages.specs.PlacedCalls.{called};
+ghost use Rattle.messages.specs.Calls.{called};
 ghost use Rattle.exports.specs.Flat.{read_result, read_buffer};
 ghost use Rattle.exports.specs.Rewrite.{writing_result, rewrite_result, rewrite_octets};
 

@@ -11,7 +11,8 @@ use Rattle.elements.specs.Table.{Counted}
 use Rattle.elements.specs.declared.typed_pdu_fields.Skipped.{Skipped}
 use Rattle.elements.specs.declared.typed_pdu_fields.Skipped.TheVariants as S
 use Rattle.messages.specs.Calls.{message_of, read_message, good_call, window_of, no_reading, reading_of, reading}
-use Rattle.messages.specs.PlacedCalls.{accepted, called, Own, taken, call_taken, call_refused, bad_call_lem, place_inside}
+use Rattle.messages.proofs.PlacedCalls.{Own, taken, call_taken, call_refused, bad_call_lem, place_inside}
+use Rattle.messages.specs.Calls.{accepted, called}
 use Rattle.messages.specs.declared.Record.{Record}
 use Rattle.messages.specs.declared.Reading.{Reading}
 use Rattle.messages.specs.declared.Verdict.TheVariants.{Accepted}

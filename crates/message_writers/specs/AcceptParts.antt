@@ -11,7 +11,7 @@ use Rattle.bits.specs.Bits.{Bits, bit, digits}
 use Rattle.bits.specs.BitsLaws.{length_digits}
 use Rattle.bits.specs.Written.{joined}
 use Rattle.elements.specs.Numbers.{held, option_all, option_map, in_width, in_u64, flag_width, type2_bits}
-use Rattle.elements.specs.NumbersLaws.{both, one_bit}
+use Rattle.elements.proofs.NumbersLaws.{both, one_bit}
 use Rattle.elements.specs.EnergySaving.{saving_bits}
 use Rattle.elements.specs.Generics.{type4_fits}
 use Rattle.elements.specs.Locations.{location_accept_bits}

@@ -13,7 +13,7 @@ use Rattle.bits.specs.Placed.{Placed}
 use Rattle.bits.specs.Written.{joined, written}
 use Rattle.bits.specs.WrittenLaws.{Octets}
 use Rattle.bits.specs.PutsLaws.{Puts, ◌⨾◌, joined-append}
-use Rattle.elements.specs.NumbersLaws.{neither}
+use Rattle.elements.proofs.NumbersLaws.{neither}
 use Rattle.elements.specs.Table.{mbit_width}
 use Rattle.elements.specs.Numbers.{option_all, flag_width, option_map}
 use Rattle.elements.specs.Generics.{type3_fits}
@@ -28,7 +28,7 @@ use Rattle.element_writers.specs.WrittenElements.{optional_bits, outer_list_part
 use Rattle.element_writers.specs.declared.group_address.GroupsAsked.{GroupsAsked}
 use Rattle.messages.specs.Head.{pdu_type_width, d_attach_detach_group_identity_type, any_present}
 use Rattle.messages.specs.AttachDetach.{attach_detach_head_of, attach_detach_table, attach_detach_slots, attach_detach_bits, attach_detach_parts, attach_detach_asked}
-use Rattle.messages.specs.QuestionsLaws.{each_of}
+use Rattle.messages.proofs.QuestionsLaws.{each_of}
 use Rattle.messages.specs.declared.d_attach_detach_group_identity.AttachDetachHead.{AttachDetachHead}
 use Rattle.messages.specs.declared.d_attach_detach_group_identity.DAttachDetachGroupIdentity.{DAttachDetachGroupIdentity}
 use Rattle.message_writers.specs.WritesLaws.{generic_bits, kind-slot, type3_slot_lem, type4_slot_lem, slot-present, optional-length, InParts, in_parts_lem}

@@ -11,7 +11,7 @@ use Rattle.bits.specs.Bits.{Bits, bit, digits}
 use Rattle.bits.specs.BitsLaws.{length_digits, digits_append, digits-add}
 use Rattle.bits.specs.Written.{joined}
 use Rattle.elements.specs.Numbers.{held, option_bits, option_all, option_map, in_width, in_u8, in_u64, flag_width, type2_bits}
-use Rattle.elements.specs.NumbersLaws.{both, one_bit, neither}
+use Rattle.elements.proofs.NumbersLaws.{both, one_bit, neither}
 use Rattle.elements.specs.ClassOfMs.{class_bits, class_fits}
 use Rattle.elements.specs.EnergySaving.{saving_mode_width}
 use Rattle.elements.specs.Locations.{location_demand_bits}

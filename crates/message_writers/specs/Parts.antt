@@ -10,7 +10,7 @@ use Rattle.bits.specs.WrittenLaws.{Octets}
 use Rattle.bits.specs.PutsLaws.{Puts, ◌⨾◌, one, write-nothing, joined-append}
 use Rattle.elements.specs.Table.{mbit_width}
 use Rattle.elements.specs.Numbers.{held, option_all, type2_bits, in_u64, flag_width}
-use Rattle.elements.specs.NumbersLaws.{both, neither}
+use Rattle.elements.proofs.NumbersLaws.{both, neither}
 use Rattle.elements.specs.ClassOfMs.{class_bits, numbers_bits}
 use Rattle.elements.specs.EnergySaving.{saving_bits}
 use Rattle.elements.specs.Generics.{type3_fits}

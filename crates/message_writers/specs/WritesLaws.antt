@@ -20,7 +20,7 @@ use Rattle.elements.specs.declared.typed_pdu_fields.OptionalType3.{OptionalType3
 use Rattle.elements.specs.declared.typed_pdu_fields.OptionalType4.{OptionalType4}
 use Rattle.element_writers.specs.WrittenElements.{optional_bits, element-length}
 use Rattle.messages.specs.Questions.{Asked, all_of, first_no}
-use Rattle.messages.specs.RoundTrip.{Passed, passed}
+use Rattle.messages.proofs.RoundTrip.{Passed, passed}
 use Rattle.message_writers.specs.Writes.{written_by, write_message, begun, as_asked, Answered}
 use Rattle.message_writers.specs.declared.questions.Answers.{Answers}
 

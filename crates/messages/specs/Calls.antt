@@ -17,6 +17,7 @@ use Rattle.messages.specs.AttachDetach.{attach_detach_head_of, attach_detach_hea
 use Rattle.messages.specs.declared.u_location_update_demand.ULocationUpdateDemand.{ULocationUpdateDemand}
 use Rattle.messages.specs.declared.d_location_update_accept.DLocationUpdateAccept.{DLocationUpdateAccept}
 use Rattle.messages.specs.declared.d_attach_detach_group_identity.DAttachDetachGroupIdentity.{DAttachDetachGroupIdentity}
+use Rattle.bits.specs.declared.bitbuffer.Cursor.{Cursor}
 use Rattle.messages.specs.declared.Record.{Record}
 use Rattle.messages.specs.declared.Reading.{Reading}
 use Rattle.messages.specs.declared.Writing.{Writing}
@@ -121,6 +122,14 @@ reading m how os first end =
     cond (good_call m how (length os) first end)
     (reading_of first (length (window_of os first end)) (read_message (message_of m) (eqb how 1) (window_of os first end)))
     (no_reading bad_call first)
+
+-- the answer with a record that was read from `first` up to a cursor
+abbrev pub accepted : ℕ → ℕ → Cursor → Record → Reading
+accepted first n k r = record { verdict = Accepted; place = k.at; consumed = k.at - first; skipped = n; «record» = r }
+
+-- a call that passed question 1
+abbrev pub called : Message → Bool → List ℕ → ℕ → ℕ → Reading
+called m skipping os first end = reading_of first (length (window_of os first end)) (read_message m skipping (window_of os first end))
 
 -- ITS COMPANION: the octets after the last one consumed from; all of them with a refusal
 abbrev pub behind_of : Verdict → ℕ → List ℕ → List ℕ

@@ -7,7 +7,7 @@ pub mod u_location_update_demand;
 
 ghost use Rattle.std.specs.Prelude.{◌≡◌, ◌≤◌};
 ghost use Rattle.messages.specs.Calls.{demand, accept, attach_detach, known, good_window, good_call, no_reading, reading, behind};
-ghost use Rattle.messages.specs.PlacedCalls.{accepted, called};
+ghost use Rattle.messages.specs.Calls.{accepted, called};
 
 use bits::bitbuffer::Cursor;
 use bits::pdu_parse_error::BAD_CALL;

@@ -2,7 +2,7 @@
 use native.Mathlib.Omega.{arith}
 use Rattle.messages.specs.Calls.{accept}
 use Rattle.bits.specs.PlacedLaws.{Fact, fact}
-use Rattle.messages.specs.PlacedCalls.{own-accept}
+use Rattle.messages.proofs.PlacedCalls.{own-accept}
 use Rattle.exports.specs.ReadLaws.{filled-refused, filled-read}
 use Rattle.exports.proofs.accept_into.Goals as goal
 use Rattle.exports.proofs.accept_into.Goals.{In-Count}

@@ -2,7 +2,7 @@
 use native.Mathlib.Omega.{arith}
 use Rattle.messages.specs.Calls.{attach_detach}
 use Rattle.bits.specs.PlacedLaws.{Fact, fact}
-use Rattle.messages.specs.PlacedCalls.{own-attach_detach}
+use Rattle.messages.proofs.PlacedCalls.{own-attach_detach}
 use Rattle.exports.specs.ReadLaws.{filled-refused, filled-read}
 use Rattle.exports.proofs.attach_detach_into.Goals as goal
 use Rattle.exports.proofs.attach_detach_into.Goals.{In-Count}

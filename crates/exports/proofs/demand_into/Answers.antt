@@ -2,7 +2,7 @@
 use native.Mathlib.Omega.{arith}
 use Rattle.messages.specs.Calls.{demand}
 use Rattle.bits.specs.PlacedLaws.{Fact, fact}
-use Rattle.messages.specs.PlacedCalls.{own-demand}
+use Rattle.messages.proofs.PlacedCalls.{own-demand}
 use Rattle.exports.specs.ReadLaws.{filled-refused, filled-read}
 use Rattle.exports.proofs.demand_into.Goals as goal
 use Rattle.exports.proofs.demand_into.Goals.{In-Count}

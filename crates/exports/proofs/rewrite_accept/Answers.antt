@@ -2,7 +2,7 @@
 use mathlib.Core.Path.{sym, ◌∙◌}
 use Rattle.bits.specs.PlacedLaws.{Fact, fact}
 use Rattle.messages.specs.Head.{d_location_update_accept_type}
-use Rattle.messages.specs.PlacedCalls.{own-accept}
+use Rattle.messages.proofs.PlacedCalls.{own-accept}
 use Rattle.exports.specs.RewriteLaws.{rewrite_refused, rewrite_taken, rewrite_bad, written-most}
 use Rattle.exports.proofs.rewrite_accept.Goals as goal
 use Rattle.exports.proofs.rewrite_accept.Goals.{Then-is_good_call}

@@ -2,7 +2,7 @@
 use mathlib.Core.Path.{sym, ◌∙◌}
 use Rattle.bits.specs.PlacedLaws.{Fact, fact}
 use Rattle.messages.specs.Head.{d_attach_detach_group_identity_type}
-use Rattle.messages.specs.PlacedCalls.{own-attach_detach}
+use Rattle.messages.proofs.PlacedCalls.{own-attach_detach}
 use Rattle.exports.specs.RewriteLaws.{rewrite_refused, rewrite_taken, rewrite_bad, written-most}
 use Rattle.exports.proofs.rewrite_attach_detach.Goals as goal
 use Rattle.exports.proofs.rewrite_attach_detach.Goals.{Then-is_good_call}

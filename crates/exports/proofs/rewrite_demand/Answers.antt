@@ -2,7 +2,7 @@
 use mathlib.Core.Path.{sym, ◌∙◌}
 use Rattle.bits.specs.PlacedLaws.{Fact, fact}
 use Rattle.messages.specs.Head.{u_location_update_demand_type}
-use Rattle.messages.specs.PlacedCalls.{own-demand}
+use Rattle.messages.proofs.PlacedCalls.{own-demand}
 use Rattle.exports.specs.RewriteLaws.{rewrite_refused, rewrite_taken, rewrite_bad, written-most}
 use Rattle.exports.proofs.rewrite_demand.Goals as goal
 use Rattle.exports.proofs.rewrite_demand.Goals.{Then-is_good_call}

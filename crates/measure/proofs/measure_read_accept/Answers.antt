@@ -3,7 +3,7 @@ use native.Mathlib.Omega.{arith}
 use mathlib.Core.Path.{sym, ◌∙◌}
 use Rattle.bits.specs.PlacedLaws.{Fact, fact}
 use Rattle.messages.specs.Head.{d_location_update_accept_type}
-use Rattle.messages.specs.PlacedCalls.{own-accept}
+use Rattle.messages.proofs.PlacedCalls.{own-accept}
 use Rattle.measure.specs.MeasuredLaws.{measured_bad, measured-refused, measured-read}
 use Rattle.measure.proofs.measure_read_accept.Goals as goal
 use Rattle.measure.proofs.measure_read_accept.Goals.{In-Count}

@@ -3,7 +3,7 @@ use native.Mathlib.Omega.{arith}
 use mathlib.Core.Path.{sym, ◌∙◌}
 use Rattle.bits.specs.PlacedLaws.{Fact, fact}
 use Rattle.messages.specs.Head.{d_attach_detach_group_identity_type}
-use Rattle.messages.specs.PlacedCalls.{own-attach_detach}
+use Rattle.messages.proofs.PlacedCalls.{own-attach_detach}
 use Rattle.measure.specs.MeasuredLaws.{measured_bad, measured-refused, measured-read}
 use Rattle.measure.proofs.measure_read_attach_detach.Goals as goal
 use Rattle.measure.proofs.measure_read_attach_detach.Goals.{In-Count}

@@ -3,7 +3,7 @@ use native.Mathlib.Omega.{arith}
 use mathlib.Core.Path.{sym, ◌∙◌}
 use Rattle.bits.specs.PlacedLaws.{Fact, fact}
 use Rattle.messages.specs.Head.{u_location_update_demand_type}
-use Rattle.messages.specs.PlacedCalls.{own-demand}
+use Rattle.messages.proofs.PlacedCalls.{own-demand}
 use Rattle.measure.specs.MeasuredLaws.{measured_bad, measured-refused, measured-read}
 use Rattle.measure.proofs.measure_read_demand.Goals as goal
 use Rattle.measure.proofs.measure_read_demand.Goals.{In-Count}

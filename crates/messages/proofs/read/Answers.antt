@@ -3,7 +3,7 @@ use mathlib.Core.Path.{sym, ◌∙◌}
 use borrow.Author.Tests.{eq-eqb, ne_eqb}
 use Rattle.bits.specs.PlacedLaws.{Fact, fact}
 use Rattle.messages.specs.Calls.{demand, accept, attach_detach}
-use Rattle.messages.specs.PlacedCalls.{good_call_lem, bad_call_lem}
+use Rattle.messages.proofs.PlacedCalls.{good_call_lem, bad_call_lem}
 use Rattle.messages.proofs.read.Goals as goal
 use Rattle.messages.proofs.read.Goals.{Then-is_good_call}
 

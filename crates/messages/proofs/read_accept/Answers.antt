@@ -2,7 +2,7 @@
 use mathlib.Core.Path.{◌∙◌}
 use Rattle.messages.specs.Calls.{accept}
 use Rattle.bits.specs.PlacedLaws.{Fact, fact}
-use Rattle.messages.specs.PlacedCalls.{taken, not_taken, own-accept}
+use Rattle.messages.proofs.PlacedCalls.{taken, not_taken, own-accept}
 use Rattle.messages.proofs.read_accept.Goals as goal
 use Rattle.messages.proofs.read_accept.Goals.{In-Count}
 

@@ -2,7 +2,7 @@
 use mathlib.Core.Path.{◌∙◌}
 use Rattle.messages.specs.Calls.{attach_detach}
 use Rattle.bits.specs.PlacedLaws.{Fact, fact}
-use Rattle.messages.specs.PlacedCalls.{taken, not_taken, own-attach_detach}
+use Rattle.messages.proofs.PlacedCalls.{taken, not_taken, own-attach_detach}
 use Rattle.messages.proofs.read_attach_detach.Goals as goal
 use Rattle.messages.proofs.read_attach_detach.Goals.{In-Count}
 

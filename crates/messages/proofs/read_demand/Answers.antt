@@ -2,7 +2,7 @@
 use mathlib.Core.Path.{◌∙◌}
 use Rattle.messages.specs.Calls.{demand}
 use Rattle.bits.specs.PlacedLaws.{Fact, fact}
-use Rattle.messages.specs.PlacedCalls.{taken, not_taken, own-demand}
+use Rattle.messages.proofs.PlacedCalls.{taken, not_taken, own-demand}
 use Rattle.messages.proofs.read_demand.Goals as goal
 use Rattle.messages.proofs.read_demand.Goals.{In-Count}
 

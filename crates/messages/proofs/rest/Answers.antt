@@ -1,6 +1,6 @@
 -- `messages::rest` meets its contract: a record's place lies inside the octets. Assumes nothing.
 use native.Mathlib.Omega.{arith}
-use Rattle.messages.specs.PlacedCalls.{place_inside, behind-place, behind-refused}
+use Rattle.messages.proofs.PlacedCalls.{place_inside, behind-place, behind-refused}
 use Rattle.messages.proofs.rest.Goals as goal
 
 pub returns-in_default : goal.returns-in_default

@@ -6,7 +6,7 @@ use lib.ListN.{length}
 use Rattle.bits.specs.Bits.{digits}
 use Rattle.bits.specs.DigitsLaws.{no_digits, ◌▹◌}
 use Rattle.elements.specs.ClassOfMs.{class_widths, class_bits, numbers_bits}
-use Rattle.elements.specs.ClassOfMsLaws.{one_number}
+use Rattle.elements.proofs.ClassOfMsLaws.{one_number}
 use Rattle.element_writers.proofs.class_of_ms.present_class.Goals as goal
 
 pub loop-i-init : goal.loop-i-init

@@ -1,5 +1,5 @@
 -- `element_writers::energy_saving_information::ask_saving` meets its contract. Assumes nothing.
-use Rattle.elements.specs.NumbersLaws.{is_present-held}
+use Rattle.elements.proofs.NumbersLaws.{is_present-held}
 use Rattle.elements.specs.EnergySaving.{saving_fits, alive_has_none, others_have_both}
 use Rattle.element_writers.proofs.energy_saving_information.ask_saving.Goals as goal
 

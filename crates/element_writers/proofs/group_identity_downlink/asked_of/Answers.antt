@@ -1,5 +1,5 @@
 -- `element_writers::group_identity_downlink::asked_of` meets its contract. Assumes nothing.
-use Rattle.elements.specs.NumbersLaws.{is_present-held}
+use Rattle.elements.proofs.NumbersLaws.{is_present-held}
 use native.Mathlib.Omega.{arith}
 use Rattle.elements.specs.Groups.{attachment_bits, downlink_forms, downlink_attachment, downlink_detachment, downlink_address_in, downlink_bits, downlink_fits, downlink_one, downlink_listed}
 use Rattle.element_writers.specs.GroupsAsked.{option-size, attachment-size, downlink_listed_lem, group-size}

@@ -1,5 +1,5 @@
 -- `element_writers::group_identity_downlink::front` meets its contract. Assumes nothing.
-use Rattle.elements.specs.NumbersLaws.{is_present-held}
+use Rattle.elements.proofs.NumbersLaws.{is_present-held}
 use Rattle.bits.specs.DigitsLaws.{no_digits, ◌▹◌}
 use Rattle.element_writers.specs.GroupParts.{downlink_front}
 use Rattle.element_writers.proofs.group_identity_downlink.front.Goals as goal

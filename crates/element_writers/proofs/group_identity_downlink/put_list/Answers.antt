@@ -1,6 +1,6 @@
 -- `element_writers::group_identity_downlink::put_list` meets its contract. Assumes nothing.
 use Rattle.bits.specs.PutsLaws.{◌⨾◌}
-use Rattle.elements.specs.EachLaws.{take-most}
+use Rattle.elements.proofs.EachLaws.{take-most}
 use Rattle.element_writers.proofs.group_identity_downlink.put_list.Goals as goal
 
 pub returns : goal.returns

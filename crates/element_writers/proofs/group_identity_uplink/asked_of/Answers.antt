@@ -1,5 +1,5 @@
 -- `element_writers::group_identity_uplink::asked_of` meets its contract. Assumes nothing.
-use Rattle.elements.specs.NumbersLaws.{is_present-held}
+use Rattle.elements.proofs.NumbersLaws.{is_present-held}
 use native.Mathlib.Omega.{arith}
 use Rattle.bits.specs.Bits.{digits}
 use Rattle.elements.specs.Groups.{uplink_forms, uplink_class, uplink_detachment, uplink_address_in, uplink_bits, uplink_fits, uplink_one, uplink_listed}

@@ -2,7 +2,7 @@
 use Rattle.bits.specs.DigitsLaws.{◌▹◌}
 use Rattle.bits.specs.PutsLaws.{field, ◌⨾◌}
 use Rattle.elements.specs.Locations.{group_identity_uplink_identifier}
-use Rattle.elements.specs.EachLaws.{take-most}
+use Rattle.elements.proofs.EachLaws.{take-most}
 use Rattle.element_writers.specs.WrittenElements.{list_front-fits}
 use Rattle.element_writers.proofs.group_identity_uplink.put_list.Goals as goal
 

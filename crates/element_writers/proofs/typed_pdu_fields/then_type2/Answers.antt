@@ -1,5 +1,5 @@
 -- `element_writers::typed_pdu_fields::then_type2` meets its contract. Assumes nothing.
-use Rattle.elements.specs.NumbersLaws.{is_present-held}
+use Rattle.elements.proofs.NumbersLaws.{is_present-held}
 use Rattle.bits.specs.DigitsLaws.{joined-twice}
 use Rattle.element_writers.proofs.typed_pdu_fields.then_type2.Goals as goal
 

@@ -3,10 +3,10 @@ use Rattle.bits.specs.Reader.{field, word}
 use Rattle.bits.specs.Placed.{placed, as_field8, as_field32}
 use Rattle.bits.specs.PlacedLaws.{Gives, so, by, by-refusal}
 use Rattle.elements.specs.Numbers.{flag_width}
-use Rattle.elements.specs.ClassOfMsLaws.{class-local, class-there, class-ended}
+use Rattle.elements.proofs.ClassOfMsLaws.{class-local, class-there, class-ended}
 use mathlib.Core.Path.{ap}
 use Rattle.bits.specs.ReaderLaws.{local_tail}
-use Rattle.elements.specs.PlacedOptional.{type2-ended, type2-refused, type2-read, type2-absent}
+use Rattle.elements.proofs.PlacedOptional.{type2-ended, type2-refused, type2-read, type2-absent}
 use Rattle.elements.proofs.class_of_ms.parse_type2_class_of_ms.Goals as goal
 use Rattle.elements.proofs.class_of_ms.parse_type2_class_of_ms.Goals.{In-Value}
 

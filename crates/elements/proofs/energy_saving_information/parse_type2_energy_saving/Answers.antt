@@ -5,9 +5,9 @@ use Rattle.bits.specs.ReaderLaws.{local_tail}
 use Rattle.bits.specs.Placed.{placed, as_field8}
 use Rattle.bits.specs.PlacedLaws.{Gives, so, by, by-refusal}
 use Rattle.elements.specs.Numbers.{flag_width}
-use Rattle.elements.specs.EnergySavingLaws.{saving-local}
+use Rattle.elements.proofs.EnergySavingLaws.{saving-local}
 use Rattle.elements.specs.GroupAnswers.{as_saving}
-use Rattle.elements.specs.PlacedOptional.{type2-ended, type2-refused, type2-read, type2-absent}
+use Rattle.elements.proofs.PlacedOptional.{type2-ended, type2-refused, type2-read, type2-absent}
 use Rattle.elements.proofs.energy_saving_information.parse_type2_energy_saving.Goals as goal
 use Rattle.elements.proofs.energy_saving_information.parse_type2_energy_saving.Goals.{In-Value}
 

@@ -4,7 +4,7 @@ use Rattle.bits.specs.Placed.{placed}
 use Rattle.bits.specs.PlacedLaws.{Gives, so, by, by-refusal}
 use Rattle.elements.specs.Groups.{address_width}
 use Rattle.elements.specs.Answers.{optional_u32, as_optional_u32}
-use Rattle.elements.specs.PlacedGroups.{no_gssi, no_extension, no_vgssi, whole-address}
+use Rattle.elements.proofs.PlacedGroups.{no_gssi, no_extension, no_vgssi, whole-address}
 use mathlib.Core.Path.{ap}
 use Rattle.elements.proofs.group_address.read_parts.Goals as goal
 use Rattle.elements.proofs.group_address.read_parts.Goals.{In-Read, In-Read-e}

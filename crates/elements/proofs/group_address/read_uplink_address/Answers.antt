@@ -6,8 +6,8 @@ use Rattle.bits.specs.Reader.{field, word}
 use Rattle.bits.specs.Placed.{placed, as_field8}
 use Rattle.bits.specs.PlacedLaws.{Gives, so, by, by-refusal}
 use Rattle.elements.specs.Groups.{address_type_width, uplink_forms, uplink_address}
-use Rattle.elements.specs.PlacedOptional.{field-small}
-use Rattle.elements.specs.PlacedGroups.{no_type, of_type}
+use Rattle.elements.proofs.PlacedOptional.{field-small}
+use Rattle.elements.proofs.PlacedGroups.{no_type, of_type}
 use Rattle.elements.proofs.group_address.read_uplink_address.Goals as goal
 use Rattle.elements.proofs.group_address.read_uplink_address.Goals.{In-Value}
 

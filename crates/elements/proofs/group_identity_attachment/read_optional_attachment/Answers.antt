@@ -5,8 +5,8 @@ use Rattle.bits.specs.ReaderLaws.{local_tail, field-local}
 use Rattle.bits.specs.Placed.{window, as_field8}
 use Rattle.bits.specs.PlacedLaws.{so, by, by-refusal, step, stop, done}
 use Rattle.bits.specs.PlacedTimes.{alike}
-use Rattle.elements.specs.GroupsLaws.{attachment_info-local, attachment-word}
-use Rattle.elements.specs.PlacedOptional.{wanted-refused, wanted_read, unwanted}
+use Rattle.elements.proofs.GroupsLaws.{attachment_info-local, attachment-word}
+use Rattle.elements.proofs.PlacedOptional.{wanted-refused, wanted_read, unwanted}
 use Rattle.elements.proofs.group_identity_attachment.read_optional_attachment.Goals as goal
 
 pub returns-in_default : goal.returns-in_default

@@ -7,13 +7,13 @@ use Rattle.bits.specs.Placed.{placed, as_field}
 use Rattle.bits.specs.PlacedLaws.{Gives, by, by-refusal, done}
 use Rattle.elements.specs.Table.{length_width}
 use Rattle.elements.specs.Locations.{location_accept}
-use Rattle.elements.specs.LocationsLaws.{accept_laws}
+use Rattle.elements.proofs.LocationsLaws.{accept_laws}
 use Rattle.elements.specs.Kinds.{row, of_location_accept, is_location_accept, content_of, identifier_of, content}
 use Rattle.elements.specs.Answers.{opening, as_optional_u8}
 use Rattle.elements.specs.GroupAnswers.{location_accept_slot_answer, location_accept_slot}
-use Rattle.elements.specs.Verdicts.{answer, location_accept-beside, verdict_to, verdict_refused}
-use Rattle.elements.specs.PlacedTable.{slot-outside, slot-absent}
-use Rattle.elements.specs.PlacedLocations.{There, row_no_length, row-refused, row_read}
+use Rattle.elements.proofs.Verdicts.{answer, location_accept-beside, verdict_to, verdict_refused}
+use Rattle.elements.proofs.PlacedTable.{slot-outside, slot-absent}
+use Rattle.elements.proofs.PlacedLocations.{There, row_no_length, row-refused, row_read}
 use Rattle.elements.proofs.group_identity_location_accept.read_location_accept_slot.Goals as goal
 use Rattle.elements.proofs.group_identity_location_accept.read_location_accept_slot.Goals.{then-id+else-id-identifier, else-id, After-read-f, In-Read, In-Value}
 

@@ -7,13 +7,13 @@ use Rattle.bits.specs.Placed.{placed, as_field}
 use Rattle.bits.specs.PlacedLaws.{Gives, by, by-refusal, done}
 use Rattle.elements.specs.Table.{length_width}
 use Rattle.elements.specs.Locations.{location_demand}
-use Rattle.elements.specs.LocationsLaws.{demand_laws}
+use Rattle.elements.proofs.LocationsLaws.{demand_laws}
 use Rattle.elements.specs.Kinds.{row, of_location_demand, is_location_demand, content_of, identifier_of, content}
 use Rattle.elements.specs.Answers.{opening, as_optional_u8}
 use Rattle.elements.specs.GroupAnswers.{location_demand_slot_answer, location_demand_slot}
-use Rattle.elements.specs.Verdicts.{answer, location_demand-beside, verdict_to, verdict_refused}
-use Rattle.elements.specs.PlacedTable.{slot-outside, slot-absent}
-use Rattle.elements.specs.PlacedLocations.{There, row_no_length, row-refused, row_read}
+use Rattle.elements.proofs.Verdicts.{answer, location_demand-beside, verdict_to, verdict_refused}
+use Rattle.elements.proofs.PlacedTable.{slot-outside, slot-absent}
+use Rattle.elements.proofs.PlacedLocations.{There, row_no_length, row-refused, row_read}
 use Rattle.elements.proofs.group_identity_location_demand.read_location_demand_slot.Goals as goal
 use Rattle.elements.proofs.group_identity_location_demand.read_location_demand_slot.Goals.{then-id+else-id-identifier, else-id, After-read-f, In-Read, In-Value}
 

@@ -5,11 +5,11 @@ use mathlib.Core.Path.{ap, ◌∙◌}
 use Rattle.bits.specs.Placed.{placed}
 use Rattle.bits.specs.PlacedLaws.{Gives, by, by-refusal, Fact, fact}
 use Rattle.elements.specs.Lists.{uplinks}
-use Rattle.elements.specs.ListsLaws.{uplinks_sound}
+use Rattle.elements.proofs.ListsLaws.{uplinks_sound}
 use Rattle.elements.specs.Fronts.{list_front, as_list_front}
 use Rattle.elements.specs.GroupAnswers.{as_uplink, uplinks_answer}
-use Rattle.elements.specs.Verdicts.{answer}
-use Rattle.elements.specs.PlacedLists.{filled_none, no_front_lem, few, group-refused, group-read, list_on, list-whole, list-inexact, list_none}
+use Rattle.elements.proofs.Verdicts.{answer}
+use Rattle.elements.proofs.PlacedLists.{filled_none, no_front_lem, few, group-refused, group-read, list_on, list-whole, list-inexact, list_none}
 use Rattle.elements.proofs.group_identity_uplink.read_uplinks_slot.Goals as goal
 use Rattle.elements.proofs.group_identity_uplink.read_uplinks_slot.Goals.{In-Read, In-Read-f}
 

@@ -2,7 +2,7 @@
 -- at the front of the array, and that what is left to read is what was asked for; by the laws of a list's slot.
 use Prim.Native.Nat.{◌-◌}
 use Rattle.elements.specs.Lists.{uplinks}
-use Rattle.elements.specs.PlacedLists.{Filled}
+use Rattle.elements.proofs.PlacedLists.{Filled}
 use Rattle.elements.proofs.group_identity_uplink.read_uplinks_slot.Given as goal
 
 abbrev pub invariant-loop-i : goal.invariant-loop-i

@@ -3,7 +3,7 @@ use mathlib.Core.Path.{ap}
 use Rattle.bits.specs.Placed.{placed}
 use Rattle.bits.specs.PlacedLaws.{Gives, by}
 use Rattle.elements.specs.Answers.{opening, as_optional_u8}
-use Rattle.elements.specs.PlacedTable.{opening-looks, opening_unseen}
+use Rattle.elements.proofs.PlacedTable.{opening-looks, opening_unseen}
 use Rattle.elements.proofs.typed_pdu_fields.is_elsewhere.Goals as goal
 use Rattle.elements.proofs.typed_pdu_fields.is_elsewhere.Goals.{In-Read}
 

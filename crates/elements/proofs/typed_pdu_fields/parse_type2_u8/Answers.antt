@@ -3,7 +3,7 @@ use mathlib.Core.Path.{refl, ap}
 use Rattle.bits.specs.Reader.{word}
 use Rattle.bits.specs.Placed.{as_field8}
 use Rattle.bits.specs.PlacedLaws.{so, by, by-refusal}
-use Rattle.elements.specs.PlacedOptional.{type2-there, type2-ended}
+use Rattle.elements.proofs.PlacedOptional.{type2-there, type2-ended}
 use Rattle.elements.proofs.typed_pdu_fields.parse_type2_u8.Goals as goal
 
 pub returns-in_default : goal.returns-in_default

@@ -5,9 +5,9 @@ use Rattle.bits.specs.ReaderLaws.{local·rules}
 use Rattle.bits.specs.Placed.{as_field, as_field32}
 use Rattle.bits.specs.PlacedLaws.{by, by-refusal, step, stop, done, Fact, fact}
 use Rattle.elements.specs.Generics.{type3}
-use Rattle.elements.specs.GenericsLaws.{kept-local}
+use Rattle.elements.proofs.GenericsLaws.{kept-local}
 use Rattle.elements.specs.Answers.{generic_answer}
-use Rattle.elements.specs.Verdicts.{answer}
+use Rattle.elements.proofs.Verdicts.{answer}
 use Rattle.elements.proofs.typed_pdu_fields.parse_type3_generic.Goals as goal
 use Rattle.elements.proofs.typed_pdu_fields.parse_type3_generic.Goals.{In-Value}
 

@@ -11,11 +11,11 @@ use Rattle.bits.specs.PlacedTimes.{alike}
 use Rattle.bits.specs.declared.bitbuffer.Cursor.{Cursor}
 use Rattle.elements.specs.Table.{length_width}
 use Rattle.elements.specs.Generics.{entries_width, entries, kept_entries, type4}
-use Rattle.elements.specs.GenericsLaws.{kept-local}
+use Rattle.elements.proofs.GenericsLaws.{kept-local}
 use Rattle.elements.specs.Rows.{sized, from_type4, generic_type4_at}
-use Rattle.elements.specs.PlacedLists.{entries_unnumbered, entries_underflow, entries-there, entries-made}
+use Rattle.elements.proofs.PlacedLists.{entries_unnumbered, entries_underflow, entries-there, entries-made}
 use Rattle.elements.specs.Answers.{generic_answer}
-use Rattle.elements.specs.Verdicts.{answer}
+use Rattle.elements.proofs.Verdicts.{answer}
 use Rattle.elements.specs.declared.typed_pdu_fields.Generic.{Generic}
 use Rattle.elements.proofs.typed_pdu_fields.parse_type4_generic.Goals as goal
 use Rattle.elements.proofs.typed_pdu_fields.parse_type4_generic.Goals.{In-Value, In-Value-k}

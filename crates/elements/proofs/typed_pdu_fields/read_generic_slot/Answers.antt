@@ -15,8 +15,8 @@ use Rattle.elements.specs.Generics.{type3, type4}
 use Rattle.elements.specs.Kinds.{absent_type3, absent_type4, is_type3, is_type4, content_of, identifier_of, content}
 use Rattle.elements.specs.Rows.{sized, from_type3, from_type4, generic_type3_at, generic_type4_at, is_type4_row, generic_row, generic_in, generic_slot, no_generic}
 use Rattle.elements.specs.Answers.{opening, as_optional_u8, generic_answer}
-use Rattle.elements.specs.Verdicts.{answer}
-use Rattle.elements.specs.PlacedTable.{sized-made, slot-outside, slot-ends, slot-other, slot-there}
+use Rattle.elements.proofs.Verdicts.{answer}
+use Rattle.elements.proofs.PlacedTable.{sized-made, slot-outside, slot-ends, slot-other, slot-there}
 use Rattle.elements.specs.declared.typed_pdu_fields.Row.{Row}
 use Rattle.elements.proofs.typed_pdu_fields.read_generic_slot.Goals as goal
 use Rattle.elements.proofs.typed_pdu_fields.read_generic_slot.Goals.{In-Read}

@@ -11,8 +11,8 @@ use Rattle.elements.specs.Table.{length_width}
 use Rattle.elements.specs.Rows.{sized}
 use Rattle.elements.specs.Answers.{opening, as_optional_u8}
 use Rattle.elements.specs.Fronts.{front_of, front_at, list_front}
-use Rattle.elements.specs.PlacedTable.{slot-outside, slot-other, slot-ends, slot-there}
-use Rattle.elements.specs.PlacedLists.{entries_unnumbered, entries_underflow, entries-there}
+use Rattle.elements.proofs.PlacedTable.{slot-outside, slot-other, slot-ends, slot-there}
+use Rattle.elements.proofs.PlacedLists.{entries_unnumbered, entries_underflow, entries-there}
 use Rattle.elements.specs.declared.typed_pdu_fields.ListFront.{ListFront}
 use Rattle.elements.proofs.typed_pdu_fields.read_list_front.Goals as goal
 use Rattle.elements.proofs.typed_pdu_fields.read_list_front.Goals.{In-Read, In-Value, In-Value-k, Then-id-identifier}

@@ -3,7 +3,7 @@ use mathlib.Core.Path.{ap}
 use Rattle.bits.specs.ReaderLaws.{local·rules}
 use Rattle.bits.specs.Placed.{as_field}
 use Rattle.bits.specs.PlacedLaws.{so, by, by-refusal}
-use Rattle.elements.specs.PlacedOptional.{wanted-refused, wanted_read, unwanted}
+use Rattle.elements.proofs.PlacedOptional.{wanted-refused, wanted_read, unwanted}
 use Rattle.elements.proofs.typed_pdu_fields.read_optional_u64.Goals as goal
 
 pub returns-in_default : goal.returns-in_default

@@ -4,8 +4,8 @@ use mathlib.Core.Bool.{true}
 use Rattle.bits.specs.ReaderLaws.{local·rules}
 use Rattle.bits.specs.Placed.{as_moved}
 use Rattle.bits.specs.PlacedLaws.{so, by, by-refusal, step, stop, done, Fact, fact}
-use Rattle.elements.specs.PlacedTable.{skipping_tail}
-use Rattle.elements.specs.TableLaws.{closing-local}
+use Rattle.elements.proofs.PlacedTable.{skipping_tail}
+use Rattle.elements.proofs.TableLaws.{closing-local}
 use Rattle.elements.specs.Rows.{rows_of}
 use Rattle.elements.specs.Answers.{as_skipped}
 use Rattle.elements.proofs.typed_pdu_fields.read_table_end.Goals as goal

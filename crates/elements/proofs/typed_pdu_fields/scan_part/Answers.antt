@@ -3,8 +3,8 @@
 use mathlib.Core.Path.{ap, sym, ◌∙◌}
 use Rattle.bits.specs.Placed.{as_moved}
 use Rattle.bits.specs.PlacedLaws.{by}
-use Rattle.elements.specs.Verdicts.{answer}
-use Rattle.elements.specs.EmptyParts.{part-ended, part-elsewhere}
+use Rattle.elements.proofs.Verdicts.{answer}
+use Rattle.elements.proofs.EmptyParts.{part-ended, part-elsewhere}
 use Rattle.elements.specs.Answers.{slots_answer}
 use Rattle.elements.proofs.typed_pdu_fields.scan_part.Goals as goal
 

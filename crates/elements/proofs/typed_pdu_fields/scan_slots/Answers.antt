@@ -10,12 +10,12 @@ use lib.ListN.{length, get_or}
 use Rattle.bits.specs.Placed.{placed}
 use Rattle.bits.specs.PlacedLaws.{Gives, by, by-refusal, told, Fact, fact}
 use Rattle.bits.specs.PlacedTimes.{alike}
-use Rattle.elements.specs.Verdicts.{answer, verdict_to, verdict_refused, generic_beside}
-use Rattle.elements.specs.PlacedTable.{skip-most, generic_slot_tail, filled, resumed-start, resumed_end, resumed_unskipped, resumed_broken, resumed-on}
+use Rattle.elements.proofs.Verdicts.{answer, verdict_to, verdict_refused, generic_beside}
+use Rattle.elements.proofs.PlacedTable.{skip-most, generic_slot_tail, filled, resumed-start, resumed_end, resumed_unskipped, resumed_broken, resumed-on}
 use Rattle.elements.specs.Table.{is_listed}
 use Rattle.elements.specs.Kinds.{identifier_of}
 use Rattle.elements.specs.Rows.{rows_of, slots_from, no_generics}
-use Rattle.elements.specs.Parts.{behind-most, no_slots_lem, no_behind, part-read}
+use Rattle.elements.proofs.Parts.{behind-most, no_slots_lem, no_behind, part-read}
 use Rattle.elements.specs.Answers.{as_skipped, slots_answer}
 use Rattle.elements.proofs.Tables.{no_row, slots_cons, slots_none}
 use Rattle.elements.proofs.typed_pdu_fields.scan_slots.Goals as goal

@@ -4,7 +4,7 @@
 use Prim.Native.Nat.{◌-◌, ◌≤◌}
 use mathlib.Core.Path.{◌≡◌}
 use Rattle.bits.specs.Placed.{at}
-use Rattle.elements.specs.PlacedTable.{filled, resumed}
+use Rattle.elements.proofs.PlacedTable.{filled, resumed}
 use Rattle.elements.specs.Rows.{rows_of, slots_from}
 use Rattle.elements.proofs.typed_pdu_fields.scan_slots.Given as goal
 

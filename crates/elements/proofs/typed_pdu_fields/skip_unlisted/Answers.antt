@@ -10,7 +10,7 @@ use Rattle.bits.specs.Placed.{placed, as_field, as_moved}
 use Rattle.bits.specs.PlacedLaws.{Gives, by, by-refusal, step, stop, Fact, fact}
 use Rattle.bits.specs.PlacedTimes.{alike}
 use Rattle.elements.specs.Answers.{opening, as_optional_u8}
-use Rattle.elements.specs.PlacedTable.{body, body_tail, body-on, tally-start, tally-outside, tally-ends, tally-listed, tally-on}
+use Rattle.elements.proofs.PlacedTable.{body, body_tail, body-on, tally-start, tally-outside, tally-ends, tally-listed, tally-on}
 use Rattle.elements.proofs.typed_pdu_fields.skip_unlisted.Goals as goal
 use Rattle.elements.proofs.typed_pdu_fields.skip_unlisted.Goals.{Else-is_listed, In-Read, In-To, In-Value}
 

@@ -8,7 +8,7 @@ use Rattle.bits.specs.Placed.{window, at}
 use Rattle.elements.specs.Table.{is_listed}
 use Rattle.elements.specs.Kinds.{identifier_of}
 use Rattle.elements.specs.Rows.{rows_of, skipping}
-use Rattle.elements.specs.PlacedTable.{tally}
+use Rattle.elements.proofs.PlacedTable.{tally}
 use Rattle.elements.proofs.typed_pdu_fields.skip_unlisted.Given as goal
 
 abbrev pub invariant-loop-id : goal.invariant-loop-id

@@ -6,8 +6,8 @@ use Rattle.bits.specs.Placed.{window, as_field8}
 use Rattle.bits.specs.PlacedLaws.{so, by, by-refusal, step, stop, done}
 use Rattle.bits.specs.PlacedTimes.{alike}
 use Rattle.messages.specs.AttachDetach.{attach_detach_head}
-use Rattle.messages.specs.AttachDetachLaws.{flags-word}
-use Rattle.messages.specs.PlacedHeads.{Way, past_type, type_ended, type_other}
+use Rattle.messages.proofs.AttachDetachLaws.{flags-word}
+use Rattle.messages.proofs.PlacedHeads.{Way, past_type, type_ended, type_other}
 use Rattle.messages.proofs.d_attach_detach_group_identity.read_head.Goals as goal
 use Rattle.messages.proofs.d_attach_detach_group_identity.read_head.Goals.{Then-pdu_type-eq-D_ATTACH_DETACH_GROUP_IDENTITY}
 

@@ -11,8 +11,8 @@ use Rattle.bits.specs.PlacedLaws.{Gives, Fact, fact}
 use Rattle.elements.specs.Kinds.{Element, row, of_location_accept, held_element}
 use Rattle.elements.specs.Rows.{part, no_generics}
 use Rattle.elements.specs.GroupAnswers.{location_accept_slot}
-use Rattle.elements.specs.Verdicts.{answer, numbered, verdict_to, verdict_refused, slots_beside, location_accept_slot-beside}
-use Rattle.elements.specs.Parts.{Each, no_more, one_more, Parts, no_front_lem, no_slot, no_back, all_read}
+use Rattle.elements.proofs.Verdicts.{answer, numbered, verdict_to, verdict_refused, slots_beside, location_accept_slot-beside}
+use Rattle.elements.proofs.Parts.{Each, no_more, one_more, Parts, no_front_lem, no_slot, no_back, all_read}
 use Rattle.elements.specs.declared.typed_pdu_fields.Generic.{Generic}
 use Rattle.elements.specs.declared.typed_pdu_fields.Row.{Row}
 use Rattle.elements.specs.declared.group_identity_location_accept.OptionalLocationAccept.{OptionalLocationAccept}

@@ -6,9 +6,9 @@ use Rattle.bits.specs.ReaderLaws.{local_tail}
 use Rattle.bits.specs.Placed.{as_field8}
 use Rattle.bits.specs.PlacedLaws.{so, by, by-refusal, stop, done}
 use Rattle.messages.specs.Accept.{accept_head}
-use Rattle.messages.specs.AcceptLaws.{accept_options-local}
+use Rattle.messages.proofs.AcceptLaws.{accept_options-local}
 use Rattle.messages.specs.MessageAnswers.{as_accept_options}
-use Rattle.messages.specs.PlacedHeads.{Way, past, past_type, past-field, type_ended, type_other}
+use Rattle.messages.proofs.PlacedHeads.{Way, past, past_type, past-field, type_ended, type_other}
 use Rattle.messages.proofs.d_location_update_accept.read_head.Goals as goal
 use Rattle.messages.proofs.d_location_update_accept.read_head.Goals.{In-Read, In-Value-o, In-Value-u, Then-pdu_type-eq-D_LOCATION_UPDATE_ACCEPT}
 

@@ -4,13 +4,13 @@ use Rattle.bits.specs.Reader.{word}
 use Rattle.bits.specs.ReaderLaws.{field-local}
 use Rattle.bits.specs.PlacedLaws.{so, by, by-refusal}
 use Rattle.elements.specs.Numbers.{u64_of}
-use Rattle.elements.specs.EnergySavingLaws.{saving-local}
+use Rattle.elements.proofs.EnergySavingLaws.{saving-local}
 use Rattle.elements.specs.Answers.{as_optional_u64}
 use Rattle.elements.specs.EnergySaving.{saving_option}
 use Rattle.elements.specs.GroupAnswers.{as_optional_saving}
-use Rattle.elements.specs.PlacedOptional.{ends}
+use Rattle.elements.proofs.PlacedOptional.{ends}
 use Rattle.messages.specs.Accept.{accept_options}
-use Rattle.messages.specs.PlacedHeads.{Way, begin, u64_holds, saving-holds, past-type2, type2-stop}
+use Rattle.messages.proofs.PlacedHeads.{Way, begin, u64_holds, saving-holds, past-type2, type2-stop}
 use Rattle.messages.proofs.d_location_update_accept.read_options.Goals as goal
 use Rattle.messages.proofs.d_location_update_accept.read_options.Goals.{In-Read, In-Read-e, In-Read-f, In-Read-k, In-Read-m}
 

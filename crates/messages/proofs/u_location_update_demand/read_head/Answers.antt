@@ -8,10 +8,10 @@ use Rattle.bits.specs.Placed.{as_field8}
 use Rattle.bits.specs.PlacedLaws.{so, by, by-refusal, stop}
 use Rattle.elements.specs.Numbers.{u64_of}
 use Rattle.elements.specs.Answers.{as_optional_u64}
-use Rattle.elements.specs.PlacedOptional.{ends, option-not}
-use Rattle.messages.specs.DemandLaws.{demand_options-local}
+use Rattle.elements.proofs.PlacedOptional.{ends, option-not}
+use Rattle.messages.proofs.DemandLaws.{demand_options-local}
 use Rattle.messages.specs.MessageAnswers.{as_demand_options}
-use Rattle.messages.specs.PlacedHeads.{Way, past, past_type, past-field, u64_holds, past-optional, type_ended, type_other}
+use Rattle.messages.proofs.PlacedHeads.{Way, past, past_type, past-field, u64_holds, past-optional, type_ended, type_other}
 use Rattle.messages.proofs.u_location_update_demand.read_head.Goals as goal
 use Rattle.messages.proofs.u_location_update_demand.read_head.Goals.{In-Read, In-Read-r, In-Value-a, In-Value-k, In-Value-o, In-Value-u, Then-pdu_type-eq-U_LOCATION_UPDATE_DEMAND}
 

@@ -6,14 +6,14 @@ use Rattle.bits.specs.Reader.{word}
 use Rattle.bits.specs.ReaderLaws.{field-local}
 use Rattle.bits.specs.PlacedLaws.{so, by, by-refusal}
 use Rattle.elements.specs.Numbers.{option_map, u8_of, u64_of, in_u64}
-use Rattle.elements.specs.ClassOfMsLaws.{class-local}
+use Rattle.elements.proofs.ClassOfMsLaws.{class-local}
 use Rattle.elements.specs.Answers.{as_optional_u8, as_optional_u64}
 use Rattle.elements.specs.ClassOfMs.{class_option}
 use Rattle.elements.specs.GroupAnswers.{as_class}
-use Rattle.elements.specs.PlacedOptional.{ends}
+use Rattle.elements.proofs.PlacedOptional.{ends}
 use Rattle.elements.specs.declared.typed_pdu_fields.OptionalU64.{OptionalU64}
 use Rattle.messages.specs.Demand.{halved, demand_options}
-use Rattle.messages.specs.PlacedHeads.{Way, begin, u8_holds, u64_holds, class-holds, past-type2, type2-stop}
+use Rattle.messages.proofs.PlacedHeads.{Way, begin, u8_holds, u64_holds, class-holds, past-type2, type2-stop}
 use Rattle.messages.proofs.u_location_update_demand.read_options.Goals as goal
 use Rattle.messages.proofs.u_location_update_demand.read_options.Goals.{In-Read, In-Read-e, In-Read-l, In-Read-m, In-Read-s}
 

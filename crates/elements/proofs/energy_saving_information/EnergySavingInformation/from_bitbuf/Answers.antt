@@ -5,7 +5,7 @@ use Rattle.bits.specs.Reader.{field, word}
 use Rattle.bits.specs.Placed.{placed, as_field8}
 use Rattle.bits.specs.PlacedLaws.{Gives, so, by, by-refusal, stop}
 use Rattle.elements.specs.EnergySaving.{saving_mode_width, frame_width, multiframe_width, energy_saving}
-use Rattle.elements.specs.EnergySavingLaws.{no_frame, no_multiframe, whole-saving}
+use Rattle.elements.proofs.EnergySavingLaws.{no_frame, no_multiframe, whole-saving}
 use Rattle.elements.proofs.energy_saving_information.EnergySavingInformation.from_bitbuf.Goals as goal
 use Rattle.elements.proofs.energy_saving_information.EnergySavingInformation.from_bitbuf.Goals.{In-Value, In-Value-f, In-Value-n}
 

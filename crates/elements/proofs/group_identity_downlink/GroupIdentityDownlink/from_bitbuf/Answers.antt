@@ -8,7 +8,7 @@ use Rattle.elements.specs.Groups.{attachment, detachment, detachment_width, down
 use Rattle.elements.specs.Numbers.{flag_width}
 use Rattle.elements.specs.Answers.{optional_u8, as_optional_u8}
 use Rattle.elements.specs.GroupAnswers.{as_address, as_attachment}
-use Rattle.elements.specs.PlacedGroups.{informed, downlink_shape, no_information, no_detachment, no_address_lem, whole-group}
+use Rattle.elements.proofs.PlacedGroups.{informed, downlink_shape, no_information, no_detachment, no_address_lem, whole-group}
 use Rattle.elements.proofs.group_identity_downlink.GroupIdentityDownlink.from_bitbuf.Goals as goal
 use Rattle.elements.proofs.group_identity_downlink.GroupIdentityDownlink.from_bitbuf.Goals.{In-Read, In-Read-d, In-Value}
 

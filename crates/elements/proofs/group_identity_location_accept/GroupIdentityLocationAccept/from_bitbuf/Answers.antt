@@ -9,12 +9,12 @@ use Rattle.bits.specs.PlacedLaws.{Gives, by, by-refusal, step, stop}
 use Rattle.bits.specs.PlacedTimes.{exact-stop}
 use Rattle.elements.specs.Numbers.{flag_width}
 use Rattle.elements.specs.Lists.{downlinks}
-use Rattle.elements.specs.ListsLaws.{downlinks_sound}
+use Rattle.elements.proofs.ListsLaws.{downlinks_sound}
 use Rattle.elements.specs.Locations.{nested, group_identity_downlink_identifier, accept_body, location_accept}
-use Rattle.elements.specs.LocationsLaws.{accept_of, accept_laws}
+use Rattle.elements.proofs.LocationsLaws.{accept_of, accept_laws}
 use Rattle.elements.specs.GroupAnswers.{nested_slot_if, location_accept_answer}
-use Rattle.elements.specs.Verdicts.{answer, downlinks-beside, verdict_to, verdict_refused, numbered}
-use Rattle.elements.specs.PlacedLocations.{list_unannounced, list-refused, list_unclosed, list-closed, structure-refused, structure-on, structure-whole, structure-inexact}
+use Rattle.elements.proofs.Verdicts.{answer, downlinks-beside, verdict_to, verdict_refused, numbered}
+use Rattle.elements.proofs.PlacedLocations.{list_unannounced, list-refused, list_unclosed, list-closed, structure-refused, structure-on, structure-whole, structure-inexact}
 use Rattle.elements.specs.declared.group_identity_location_accept.GroupIdentityLocationAccept.{GroupIdentityLocationAccept}
 use Rattle.elements.proofs.group_identity_location_accept.GroupIdentityLocationAccept.from_bitbuf.Goals as goal
 use Rattle.elements.proofs.group_identity_location_accept.GroupIdentityLocationAccept.from_bitbuf.Goals.{In-To, In-To-e, In-To-v, In-Value, In-Value-o}

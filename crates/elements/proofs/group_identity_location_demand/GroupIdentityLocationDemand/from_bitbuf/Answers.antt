@@ -15,12 +15,12 @@ use Rattle.bits.specs.PlacedTimes.{passed, failed, exact-stop}
 use Rattle.bits.specs.declared.bitbuffer.Cursor.{Cursor}
 use Rattle.elements.specs.Numbers.{flag_width}
 use Rattle.elements.specs.Lists.{uplinks}
-use Rattle.elements.specs.ListsLaws.{uplinks_sound}
+use Rattle.elements.proofs.ListsLaws.{uplinks_sound}
 use Rattle.elements.specs.Locations.{nested, group_identity_uplink_identifier, demand_body, location_demand}
-use Rattle.elements.specs.LocationsLaws.{demand_of, demand_laws}
+use Rattle.elements.proofs.LocationsLaws.{demand_of, demand_laws}
 use Rattle.elements.specs.GroupAnswers.{nested_slot_if, location_demand_answer}
-use Rattle.elements.specs.Verdicts.{answer, uplinks-beside, verdict_to, verdict_refused, numbered}
-use Rattle.elements.specs.PlacedLocations.{list_unannounced, list-refused, list_unclosed, list-closed, structure-refused, structure-on, structure-whole, structure-inexact}
+use Rattle.elements.proofs.Verdicts.{answer, uplinks-beside, verdict_to, verdict_refused, numbered}
+use Rattle.elements.proofs.PlacedLocations.{list_unannounced, list-refused, list_unclosed, list-closed, structure-refused, structure-on, structure-whole, structure-inexact}
 use Rattle.elements.specs.declared.group_identity_location_demand.GroupIdentityLocationDemand.{GroupIdentityLocationDemand}
 use Rattle.elements.proofs.group_identity_location_demand.GroupIdentityLocationDemand.from_bitbuf.Goals as goal
 use Rattle.elements.proofs.group_identity_location_demand.GroupIdentityLocationDemand.from_bitbuf.Goals.{In-To, In-To-e, In-Value, In-Value-m, In-Value-o}

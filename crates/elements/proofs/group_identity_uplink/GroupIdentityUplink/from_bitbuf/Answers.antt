@@ -8,7 +8,7 @@ use Rattle.elements.specs.Groups.{attachment, detachment, detachment_width, upli
 use Rattle.elements.specs.Numbers.{flag_width}
 use Rattle.elements.specs.Answers.{optional_u8, as_optional_u8}
 use Rattle.elements.specs.GroupAnswers.{as_address}
-use Rattle.elements.specs.PlacedGroups.{informed, uplink_shape, no_information, no_detachment, no_address_lem, whole-group}
+use Rattle.elements.proofs.PlacedGroups.{informed, uplink_shape, no_information, no_detachment, no_address_lem, whole-group}
 use Rattle.elements.proofs.group_identity_uplink.GroupIdentityUplink.from_bitbuf.Goals as goal
 use Rattle.elements.proofs.group_identity_uplink.GroupIdentityUplink.from_bitbuf.Goals.{In-Read, In-Read-d, In-Value}
 

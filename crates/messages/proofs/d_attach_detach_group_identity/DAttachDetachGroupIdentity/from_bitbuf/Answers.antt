@@ -7,11 +7,11 @@ use Rattle.bits.specs.ReaderLaws.{local_tail}
 use Rattle.bits.specs.Placed.{as_moved, placed, at}
 use Rattle.bits.specs.PlacedLaws.{by, by-refusal, Gives, Fact, fact}
 use Rattle.elements.specs.GroupAnswers.{downlinks_slot, downlinks_answer}
-use Rattle.elements.specs.Verdicts.{answer, numbered, verdict_refused, slots_beside, downlinks-beside, verdict_to}
-use Rattle.elements.specs.Parts.{no_front_lem, no_slot, no_back, Each, no_more, one_more, Parts, all_read}
-use Rattle.messages.specs.AttachDetachLaws.{attach_detach_head-local}
+use Rattle.elements.proofs.Verdicts.{answer, numbered, verdict_refused, slots_beside, downlinks-beside, verdict_to}
+use Rattle.elements.proofs.Parts.{no_front_lem, no_slot, no_back, Each, no_more, one_more, Parts, all_read}
+use Rattle.messages.proofs.AttachDetachLaws.{attach_detach_head-local}
 use Rattle.messages.specs.Calls.{attach_detach_format, of_attach_detach}
-use Rattle.messages.specs.PlacedMessages.{no_head, none_follow, elements_follow}
+use Rattle.messages.proofs.PlacedMessages.{no_head, none_follow, elements_follow}
 use Rattle.messages.specs.MessageAnswers.{as_attach_detach_head, attach_detach_answer, attach_detach_from}
 use mathlib.Core.Bool.{Bool, true, false}
 use mathlib.Core.Option.{Option}
@@ -21,8 +21,8 @@ use lib.Seq.{sets, take_all}
 use Rattle.bits.specs.declared.bitbuffer.Cursor.{Cursor}
 use Rattle.elements.specs.Kinds.{Element, row, of_downlinks, held_element, identifier_of, content}
 use Rattle.elements.specs.Rows.{part, no_generics}
-use Rattle.elements.specs.PlacedLocations.{downlinks_slot_lem}
-use Rattle.elements.specs.EmptyParts.{part-ended}
+use Rattle.elements.proofs.PlacedLocations.{downlinks_slot_lem}
+use Rattle.elements.proofs.EmptyParts.{part-ended}
 use Rattle.elements.specs.declared.typed_pdu_fields.Generic.{Generic}
 use Rattle.elements.specs.declared.typed_pdu_fields.Row.{Row}
 use Rattle.elements.specs.declared.group_identity_downlink.OptionalDownlinks.{OptionalDownlinks}

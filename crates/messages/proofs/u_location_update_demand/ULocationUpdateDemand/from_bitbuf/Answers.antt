@@ -3,11 +3,11 @@ use mathlib.Core.Path.{refl, ap, ◌∙◌}
 use Rattle.bits.specs.ReaderLaws.{local_tail}
 use Rattle.bits.specs.Placed.{placed, as_moved}
 use Rattle.bits.specs.PlacedLaws.{Gives, by, by-refusal}
-use Rattle.elements.specs.Verdicts.{answer}
+use Rattle.elements.proofs.Verdicts.{answer}
 use Rattle.messages.specs.Demand.{demand_head}
 use Rattle.messages.specs.Calls.{demand_format}
-use Rattle.messages.specs.DemandLaws.{demand_head-local}
-use Rattle.messages.specs.PlacedMessages.{no_head, elements_follow, none_follow}
+use Rattle.messages.proofs.DemandLaws.{demand_head-local}
+use Rattle.messages.proofs.PlacedMessages.{no_head, elements_follow, none_follow}
 use Rattle.messages.specs.MessageAnswers.{as_demand_head, demand_answer}
 use Rattle.messages.proofs.u_location_update_demand.ULocationUpdateDemand.from_bitbuf.Goals as goal
 use Rattle.messages.proofs.u_location_update_demand.ULocationUpdateDemand.from_bitbuf.Goals.{In-Read}

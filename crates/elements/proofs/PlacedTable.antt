@@ -1,0 +1,302 @@
+-- The opening of an element, a slot, unlisted elements and generic slots at a cursor.
+use Prim.Native.Nat.{ℕ, zero, suc, ◌+◌, ◌≤◌, ◌<◌, ◌^◌}
+use Rattle.std.proofs.Math.Numerals.{add-one}
+use native.Mathlib.Omega.{arith}
+use Rattle.std.specs.Prelude.{◌≡◌, refl, ◌⊎◌, Bool, true, false, cond, List, [], ◌∷◌, length, set, take, drop, leb, eqb}
+use Rattle.std.proofs.Common.{sym, ◌∙◌, ap, ⊎_elim, length-drop, eq-eqb, ne_eqb}
+use Rattle.std.proofs.Math.Option.{Option, none, some}
+use Rattle.bits.specs.PduParseError.{buffer_ended}
+use Rattle.bits.specs.Bits.{Bits, number}
+use Rattle.bits.specs.Reader.{Answer, got, refused, Reader, then, ◌>>=◌, field, pass, Tail}
+use Rattle.bits.specs.ReaderLaws.{zero_one, then-then, then_same, local·rules, bind_tail, split-then, got-refused, field-got, field_lt}
+use Rattle.bits.specs.Placed.{window, Placed, placed, halted, at}
+use Rattle.bits.specs.PlacedLaws.{Gives, told, told-not, gives-not, step, stop, done}
+use Rattle.bits.specs.PlacedTimes.{alike}
+use Rattle.bits.specs.declared.bitbuffer.Cursor.{Cursor}
+use Rattle.elements.specs.Numbers.{u8_of, flag_width}
+use Rattle.elements.specs.Table.{identifier_width, length_width, outside, ends, opens, look, Header, header, used_of, whole, Piece, piece, onward, pieces, counted, is_listed, slot, skip}
+use Rattle.elements.proofs.TableLaws.{Halts, at_end, at-stop, pieces_unfold, pieces-halts, pieces-got, stands_shrinks, slot_tail, skip_tail}
+use Rattle.elements.proofs.PlacedOptional.{type2_through}
+use Rattle.elements.specs.Kinds.{Slot, Element, identifier_of, content}
+use Rattle.elements.proofs.KindsLaws.{content-local}
+use Rattle.elements.specs.Rows.{sized, skipping, generic_row, generic_in, generic_slot, generics, slots_in}
+use Rattle.elements.specs.Answers.{optional_u8, opening}
+use Rattle.elements.specs.declared.typed_pdu_fields.OptionalU8.{OptionalU8}
+use Rattle.elements.specs.declared.typed_pdu_fields.Generic.{Generic}
+use Rattle.elements.specs.declared.typed_pdu_fields.Row.{Row}
+use Rattle.elements.specs.declared.typed_pdu_fields.Slots.{Slots}
+
+-- ## the look and the opening agree
+
+field-refused : (w : ℕ) (bs : Bits) {n : ℕ} → field w bs ≡ refused n → n ≡ buffer_ended
+unfolding field
+field-refused w bs {n} e = go (leb w (length bs)) e
+  where
+    go : (b : Bool) → cond b (got (number (take w bs)) (drop w bs)) (refused buffer_ended) ≡ refused n → n ≡ buffer_ended
+    go true e = got-refused e
+    go false e = cc
+
+pub opening_tail : Tail opening
+opening_tail = search local·rules
+
+abbrev headed : ℕ → ℕ → Header
+headed i n = record { identifier = i; size = n }
+
+-- what the opening of bs tells, with rest behind it
+record Opened (bs : Bits) (o : OptionalU8) (rest : Bits) : Type 0 where
+  looks : look bs ≡ cond o.present (opens o.value) ends
+  heads : o.present ≡ true → header bs ≡ (field length_width >>= λ n. got (headed o.value n)) rest
+  less : length rest < length bs
+
+opened : (bs : Bits) {o : OptionalU8} {rest : Bits} → opening bs ≡ got o rest → Opened bs o rest
+unfolding look header
+opened bs {o} {rest} e = split-then (field flag_width bs) _ (sym (type2_through u8_of (field identifier_width) bs) ∙ e) (λ m mid p q. go m mid p (field_lt flag_width bs p) q)
+  where
+    shorter : (m : ℕ) (mid : Bits) → field flag_width bs ≡ got m mid → length mid < length bs
+    shorter m mid p = let g = field-got flag_width bs p in omega (arith, g.enough, ap length g.left, length-drop flag_width bs)
+
+    go : (m : ℕ) (mid : Bits) → field flag_width bs ≡ got m mid → m < 2 ^ flag_width → optional_u8 (eqb m 1) (field identifier_width) mid ≡ got o rest → Opened bs o rest
+    go zero mid p l q =
+        let h : u8_of none ≡ o = cc in
+        let s : mid ≡ rest = cc in
+        rw (← h, ← s) (record {
+          looks = rw p;
+          heads = λ t. zero_one (cc);
+          less = shorter zero mid p;
+        })
+    go (suc zero) mid p l q = split-then (field identifier_width mid) _ q (λ i end p' q'.
+        let h : u8_of (some i) ≡ o = cc in
+        let s : end ≡ rest = cc in
+        let g = field-got identifier_width mid p' in
+        rw (← h, ← s) (record {
+          looks = rw p (rw p');
+          heads = λ t. rw p (rw p');
+          less = omega (arith, shorter 1 mid p, g.enough, ap length g.left, length-drop identifier_width mid);
+        }))
+    go (suc (suc m)) mid p l q = absurd (omega arith)
+
+-- it is refused where the look sees nothing
+opening-outside : (bs : Bits) {n : ℕ} → opening bs ≡ refused n → (look bs ≡ outside) × (n ≡ buffer_ended)
+unfolding look
+opening-outside bs {n} e = first (field flag_width bs) refl (sym (type2_through u8_of (field identifier_width) bs) ∙ e)
+  where
+    second : (mid : Bits) (x : Answer ℕ) → field identifier_width mid ≡ x → then x (λ i. got (u8_of (some i))) ≡ refused n → (x ≡ refused n) × (n ≡ buffer_ended)
+    second mid (got i end) p e = got-refused e
+    second mid (refused k) p e = let h : k ≡ n = cc in (ap refused h, sym h ∙ field-refused identifier_width mid p)
+
+    go : (m : ℕ) (mid : Bits) → field flag_width bs ≡ got m mid → m < 2 ^ flag_width → optional_u8 (eqb m 1) (field identifier_width) mid ≡ refused n → (look bs ≡ outside) × (n ≡ buffer_ended)
+    go zero mid p l q = got-refused q
+    go (suc zero) mid p l q = let s = second mid (field identifier_width mid) refl q in (rw p (rw s.0), s.1)
+    go (suc (suc m)) mid p l q = absurd (omega arith)
+
+    first : (x : Answer ℕ) → field flag_width bs ≡ x → then x (λ p. optional_u8 (eqb p 1) (field identifier_width)) ≡ refused n → (look bs ≡ outside) × (n ≡ buffer_ended)
+    first (got m mid) p e = go m mid p (field_lt flag_width bs p) e
+    first (refused k) p e = let h : k ≡ n = cc in (rw p, sym h ∙ field-refused flag_width bs p)
+
+pub opening_unseen : {os : List ℕ} {c : Cursor} {n : ℕ} → Gives opening os c (halted n) → look (window os c) ≡ outside
+opening_unseen {os} {c} e = (opening-outside (window os c) (told-not e)).0
+
+module _ {os : List ℕ} {c k : Cursor} {o : OptionalU8} (e : Gives opening os c (placed o k)) where
+  -- what it tells at a cursor
+  at-opening : Opened (window os c) o (window os k)
+  at-opening = opened (window os c) (told opening_tail e).said
+
+  -- what the look sees there
+  pub opening-looks : look (window os c) ≡ cond o.present (opens o.value) ends
+  opening-looks = at-opening.looks
+
+  -- the place moves, and less is left
+  opening_on : (c.at < k.at) × (length (window os k) < length (window os c))
+  opening_on = let t = told opening_tail e in let l = at-opening.less in (omega arith, l)
+
+  -- a reader that goes on behind it
+  behind : {B : Type 0} {r : Reader B} (r' : Reader B) {x : Placed B} → r (window os c) ≡ r' (window os k) → Gives r' os k x → Gives r os c x
+  behind {r = r} r' q g = alike (opening >>= λ o. r') (q ∙ sym (then_is (told opening_tail e).said)) (step (λ o. r') e opening_tail g)
+    where
+      then_is : {y : Answer OptionalU8} → y ≡ got o (window os k) → then y (λ o. r') ≡ r' (window os k)
+      then_is p = rw p
+
+-- ## one slot, and what follows it
+
+module _ {S A B : Type 0} (identifier : S → ℕ) (content : S → ℕ → Reader A) (s : S) (f : Option A → Reader B) {os : List ℕ} {c : Cursor} where
+  pub slot-outside : {n : ℕ} → Gives opening os c (halted n) → Gives (slot identifier content s >>= f) os c (halted n)
+  slot-outside e = let l = opening-outside (window os c) (told-not e) in gives-not (rw (l.0, l.1))
+
+  module _ {k : Cursor} {o : OptionalU8} (e : Gives opening os c (placed o k)) where
+    -- M-bit 0, or another identifier
+    pub slot-ends : o.present ≡ false → {x : Placed B} → Gives (f none) os c x → Gives (slot identifier content s >>= f) os c x
+    slot-ends p g = alike (f none) (rw (opening-looks e) (rw p)) g
+
+    pub slot-other : o.present ≡ true → (o.value ≡ identifier s → ⊥) → {x : Placed B} → Gives (f none) os c x → Gives (slot identifier content s >>= f) os c x
+    slot-other p h g = alike (f none) (rw (opening-looks e) (rw p (rw (ne_eqb _ _ h)))) g
+
+    -- either of the two
+    pub slot-absent : {P Q : Type 0} → P ⊎ Q → (P → (o.present ≡ true) × (o.value ≡ identifier s → ⊥)) → (Q → o.present ≡ false) → {x : Placed B}
+        → Gives (f none) os c x → Gives (slot identifier content s >>= f) os c x
+    slot-absent came other over g = ⊎_elim (λ w. slot-other (other w).0 (other w).1 g) (λ v. slot-ends (over v) g) came
+
+    -- THE ELEMENT IS THERE: its content is read from its length on, and the rest behind it
+    pub slot-there : o.present ≡ true → o.value ≡ identifier s → {x : Placed B} → Gives (sized (content s) >>= λ a. f (some a)) os k x
+        → Gives (slot identifier content s >>= f) os c x
+    slot-there p h g =
+        behind e (sized (content s) >>= λ a. f (some a))
+        (rw (opening-looks e) (rw p (rw (eq-eqb _ _ h) (rw ((at-opening e).heads p) size)))) g
+      where
+        y : Answer ℕ
+        y = field length_width (window os k)
+
+        size : then (then (then (then y (λ n. got (headed o.value n))) (λ h. content s h.size)) (λ a. got (some a))) f
+            ≡ then (then y (content s)) (λ a. f (some a))
+        size = ap (λ (z : Answer A). then (then z (λ a. got (some a))) f) (then-then y _ _) ∙ then-then (then y (content s)) _ _
+
+-- a content's value made into another in one step or in two
+pub sized-made : {A B C : Type 0} (r : ℕ → Reader A) (f : A → B) (g : B → C) (bs : Bits)
+    → (sized (λ n. r n >>= λ a. got (f a)) >>= λ b. got (g b)) bs ≡ sized (λ n. r n >>= λ a. got (g (f a))) bs
+sized-made r f g bs = then-then (field length_width bs) _ _ ∙ then_same (field length_width bs) (λ n rest. then-then (r n rest) _ _)
+
+-- ## unlisted elements that are skipped
+
+-- an element behind its identifier
+abbrev pub body : Reader Unit
+body = sized pass
+
+pub body_tail : Tail body
+body_tail = search local·rules
+
+-- it moves the place, and leaves less
+pub body-on : {os : List ℕ} {c k j : Cursor} {o : OptionalU8} → Gives opening os c (placed o k) → Gives body os k (placed tt j)
+    → (c.at < j.at) × (length (window os j) < length (window os c))
+body-on e g = let (a, l) = opening_on e in let t = told body_tail g in (omega arith, omega arith)
+
+module _ (listed : ℕ → Bool) where
+  -- n elements were passed: how many are, with those that stand here
+  abbrev pub tally : ℕ → Reader ℕ
+  tally n = pieces listed >>= λ ps. got (n + length ps)
+
+  pub tally-start : (bs : Bits) → (pieces listed >>= λ ps. got (length ps)) bs ≡ tally 0 bs
+  tally-start bs = then_same (pieces listed bs) (λ ps rest. let h : 0 + length ps ≡ length ps = omega arith in rw h)
+
+  module _ (n : ℕ) {os : List ℕ} {c : Cursor} where
+    pub tally-outside : {m : ℕ} → Gives opening os c (halted m) → Gives (tally n) os c (halted m)
+    tally-outside e =
+        let l = opening-outside (window os c) (told-not e) in
+        gives-not (rw (pieces_unfold listed (window os c)) (rw (l.0, l.1)))
+
+    halts : Halts listed (look (window os c)) → Gives (tally n) os c (placed n c)
+    halts h =
+        let all : n + 0 ≡ n = omega arith in
+        alike (got n) (rw (pieces-halts listed (window os c) h) (rw all)) done
+
+    module _ {k : Cursor} {o : OptionalU8} (e : Gives opening os c (placed o k)) where
+      -- they end before M-bit 0 and before a listed identifier
+      pub tally-ends : o.present ≡ false → Gives (tally n) os c (placed n c)
+      tally-ends p = halts (at_end (rw p at (opening-looks e)))
+
+      pub tally-listed : o.present ≡ true → listed o.value ≡ true → Gives (tally n) os c (placed n c)
+      tally-listed p t = halts (at-stop o.value (rw p at (opening-looks e)) t)
+
+      -- ONE MORE
+      pub tally-on : o.present ≡ true → listed o.value ≡ false → {x : Placed ℕ} → Gives (body >>= λ z. tally (n + 1)) os k x → Gives (tally n) os c x
+      unfolding whole piece
+      tally-on p t g =
+          behind e (body >>= λ z. tally (n + 1))
+          (rw (pieces_unfold listed (window os c)) (rw (opening-looks e) (rw p (rw t (rw ((at-opening e).heads p) (size (field length_width (window os k)))))))) g
+        where
+          piece_of : ℕ → Bits → Piece
+          piece_of i rest = record { identifier = i; bits = used_of (window os c) rest }
+
+          more : (p : Piece) (y : Answer (List Piece)) → then (then y (λ ps. got (p ∷ ps))) (λ ps. got (n + length ps)) ≡ then y (λ ps. got (n + 1 + length ps))
+          more p (got ps rest) = let h : n + suc (length ps) ≡ n + 1 + length ps = omega arith in rw h
+          more p (refused m) = refl
+
+          passes : (i : ℕ) (y : Answer Unit)
+              → then (onward (then (then (then y (λ z. got i)) (λ i rest. got (piece_of i rest) rest)) (λ p. got (some p))) (pieces listed)) (λ ps. got (n + length ps))
+              ≡ then y (λ z. tally (n + 1))
+          passes i (got z rest) = more (piece_of i rest) (pieces listed rest)
+          passes i (refused m) = refl
+
+          size : (y : Answer ℕ)
+              → then (onward (then (then (then (then y (λ n. got (headed o.value n))) (λ h. pass h.size >>= λ z. got h.identifier)) (λ i rest. got (piece_of i rest) rest)) (λ p. got (some p))) (pieces listed)) (λ ps. got (n + length ps))
+              ≡ then (then y pass) (λ z. tally (n + 1))
+          size (got m rest) = passes o.value (pass m rest)
+          size (refused m) = refl
+
+  -- each element passed is a bit at least
+  pieces-most : (ps : List Piece) (bs rest : Bits) → pieces listed bs ≡ got ps rest → length ps + length rest ≤ length bs
+  pieces-most [] bs rest e = let h = (pieces-got listed bs e).1 in omega (arith, ap length h)
+  pieces-most (p ∷ ps) bs rest e = let m = pieces-got listed bs e in omega (arith, pieces-most ps m.mid rest m.others, stands_shrinks m.stands)
+
+  pub skip_fewer : (b : Bool) (bs : Bits) {m : ℕ} {rest : Bits} → skip listed b bs ≡ got m rest → m + length rest ≤ length bs
+  skip_fewer true bs {m} {rest} e = split-then (pieces listed bs) _ e (λ ps mid p q.
+      let all : length ps ≡ m = cc in
+      let same : mid ≡ rest = cc in
+      omega (arith, pieces-most ps bs rest (rw same at p)))
+  skip_fewer false bs {m} {rest} e =
+      let nothing : 0 ≡ m = cc in
+      let same : bs ≡ rest = cc in
+      omega (arith, ap length same)
+
+  pub skip-most : (b : Bool) {os : List ℕ} {c k : Cursor} {m : ℕ} → Gives (skip listed b) os c (placed m k) → m + c.at ≤ k.at
+  skip-most b {os} {c} {k} {m} e =
+      let t = told (skip_tail listed b) e in
+      omega (arith, skip_fewer b (window os c) t.said, t.used)
+
+-- ## generic slots, one at a turn
+
+-- a slot, whose value the code holds as `out` makes it
+pub held_tail : {A : Type 0} (s : Slot) (out : Option Element → A) → Tail (slot identifier_of content s >>= λ o. got (out o))
+held_tail s out = bind_tail (slot identifier_of content s) _ (slot_tail identifier_of content content-local s) (λ o. search local·rules)
+
+pub generic_slot_tail : (r : Row) → Tail (generic_slot r)
+unfolding generic_slot
+generic_slot_tail r = held_tail (generic_row r) (generic_in r)
+
+module _ (table : List Slot) (b : Bool) where
+  -- slots, with their values put into the array from i on
+  abbrev pub filled : List Generic → ℕ → List Row → Reader Slots
+  filled gs i rs = generics table rs b >>= λ x. got (slots_in gs i x)
+
+  -- the slots that are left, where n elements were skipped before them
+  abbrev pub resumed : List Generic → ℕ → ℕ → List Row → Reader Slots
+  resumed gs i n rs = generics table rs b >>= λ x. got (slots_in gs i (counted (n + x.skipped) x.value))
+
+  pub resumed-start : (gs : List Generic) (i : ℕ) (rs : List Row) (bs : Bits) → filled gs i rs bs ≡ resumed gs i 0 rs bs
+  resumed-start gs i rs bs = then_same (generics table rs b bs) (λ x rest. let h : 0 + x.skipped ≡ x.skipped = omega arith in rw h)
+
+  pub skipping_tail : Tail (skipping table b)
+  skipping_tail = skip_tail (is_listed identifier_of table) b
+
+  module _ (gs : List Generic) (i n : ℕ) (r : Row) (rs : List Row) where
+    -- one slot, whose value goes into the array, and the others
+    abbrev turn : Reader Slots
+    turn = skipping table b >>= λ m. generic_slot r >>= λ g. resumed (set gs i g) (i + 1) (n + m) rs
+
+    turn_is : (bs : Bits) → resumed gs i n (r ∷ rs) bs ≡ turn bs
+    unfolding generics
+    turn_is bs =
+        then-then (skipping table b bs) _ _
+        ∙ then_same (skipping table b bs) (λ m mid.
+        then-then (generic_slot r mid) _ _
+        ∙ then_same (generic_slot r mid) (λ g rest.
+        then-then (generics table rs b rest) _ _
+        ∙ then_same (generics table rs b rest) (λ x end. let h : n + (m + x.skipped) ≡ n + m + x.skipped = omega arith in rw (h, add-one i))))
+
+  module _ (gs : List Generic) (i n : ℕ) {os : List ℕ} {c : Cursor} where
+    pub resumed_end : {rs : List Row} → rs ≡ [] → Gives (resumed gs i n rs) os c (placed (record { skipped = n; generics = gs }) c)
+    unfolding generics
+    resumed_end q = let h : n + 0 ≡ n = omega arith in rw q (alike (got (slots_in gs i (counted n []))) (rw h) done)
+
+    module _ {r : Row} {rs all : List Row} (q : all ≡ r ∷ rs) where
+      turns : {x : Placed Slots} → Gives (turn gs i n r rs) os c x → Gives (resumed gs i n all) os c x
+      turns g = rw q (alike (turn gs i n r rs) (turn_is gs i n r rs (window os c)) g)
+
+      pub resumed_unskipped : {k : ℕ} → Gives (skipping table b) os c (halted k) → Gives (resumed gs i n all) os c (halted k)
+      resumed_unskipped e = turns (stop _ e)
+
+      module _ {m : ℕ} {j : Cursor} (e : Gives (skipping table b) os c (placed m j)) where
+        pub resumed_broken : {k : ℕ} → Gives (generic_slot r) os j (halted k) → Gives (resumed gs i n all) os c (halted k)
+        resumed_broken f = turns (step _ e skipping_tail (stop _ f))
+
+        pub resumed-on : {g : Generic} {k : Cursor} → Gives (generic_slot r) os j (placed g k)
+            → at (resumed gs i n all) os c ≡ at (resumed (set gs i g) (i + 1) (n + m) rs) os k
+        resumed-on f = (turns (step _ e skipping_tail (step _ f (generic_slot_tail r) (record { eq = refl })))).eq

@@ -1,0 +1,142 @@
+-- The numbers of the calls: a reading is refused with 1 to 7, a writing with 1 or 8 to 16; and what a refusal's answer is.
+use Prim.Native.Nat.{ℕ, zero, suc, ◌-◌, ◌≤◌}
+use native.Mathlib.Omega.{arith}
+use Rattle.std.specs.Prelude.{◌≡◌, refl, ◌⊎◌, Bool, true, false, cond, ◌&&◌, List, length, eqb, leb}
+use Rattle.std.proofs.Math.Logic.{inl, inr, ⊎_elim}
+use Rattle.bits.specs.PduParseError.{invalid_pdu_type, bad_call}
+use Rattle.bits.specs.Bits.{Bits}
+use Rattle.bits.specs.Reader.{Answer, got, refused, Reader, field}
+use Rattle.bits.specs.ReaderLaws.{zero_one}
+use Rattle.bits.specs.Written.{put_bits}
+use Rattle.elements.specs.Table.{Counted, is_listed}
+use Rattle.elements.specs.Kinds.{Slot, Element, identifier_of, content}
+use Rattle.elements.proofs.Numbered.{Numbered, bind_numbered, got-numbered, field-numbered, unless-numbered, numbered·rules, type2-numbered, class-numbered, saving-numbered, scan-numbered, content-numbered}
+use Rattle.messages.specs.Head.{pdu_type_width, pdu_type, behind_obit}
+use Rattle.messages.specs.Format.{Format, body, message}
+use Rattle.messages.specs.Questions.{Asked, first_no}
+use Rattle.messages.specs.Demand.{demand_head, demand_options, demand_options_if, no_demand_options}
+use Rattle.messages.specs.Accept.{accept_head, accept_options, accept_options_if, no_accept_options}
+use Rattle.messages.specs.AttachDetach.{attach_detach_head}
+use Rattle.messages.specs.Calls.{Message, demand, accept, attach_detach, message_of, format_of, read_message, known, good_window, good_call, window_of, no_reading, reading_of, reading, message_bits, message_asked, writing_refusal, writing, writing_of, octets_written, octets_after}
+use Rattle.messages.specs.declared.Record.{Record}
+use Rattle.messages.specs.declared.Reading.{Reading}
+use Rattle.messages.specs.declared.Writing.{Writing}
+use Rattle.messages.specs.declared.Verdict.TheVariants.{Accepted, Refused}
+
+-- ## the three messages
+
+pdu_type-numbered : (m : ℕ) → Numbered (pdu_type m)
+unfolding pdu_type
+pdu_type-numbered m =
+    bind_numbered (field pdu_type_width) _ (field-numbered pdu_type_width)
+    (λ t. unless-numbered (eqb t m) invalid_pdu_type (record { low = omega arith; high = omega arith }))
+
+behind-numbered : {A : Type 0} (r : Reader A) (z : A) → Numbered r → (b : Bool) → Numbered (behind_obit r z b)
+behind-numbered r z h true = h
+behind-numbered r z h false = got-numbered z
+
+demand_options-numbered : (b : Bool) → Numbered (demand_options_if b)
+unfolding demand_options
+demand_options-numbered = behind-numbered demand_options no_demand_options (search (type2-numbered, numbered·rules, class-numbered) depth 16)
+
+accept_options-numbered : (b : Bool) → Numbered (accept_options_if b)
+unfolding accept_options
+accept_options-numbered = behind-numbered accept_options no_accept_options (search (type2-numbered, numbered·rules, saving-numbered) depth 16)
+
+head-numbered : (m : Message) → Numbered (format_of m).head
+unfolding demand_head accept_head attach_detach_head
+head-numbered demand = search (numbered·rules, pdu_type-numbered, demand_options-numbered) depth 16
+head-numbered accept = search (numbered·rules, pdu_type-numbered, accept_options-numbered) depth 16
+head-numbered attach_detach = search (numbered·rules, pdu_type-numbered) depth 16
+
+body-numbered : (f : Format Slot Element Record) (b : Bool) (h : f.Head) (more : Bool) → Numbered (body identifier_of content f b h more)
+body-numbered f b h true =
+    bind_numbered _ _ (scan-numbered identifier_of content content-numbered (is_listed identifier_of f.table) b f.table) (λ x. got-numbered _)
+body-numbered f b h false = got-numbered _
+
+message-numbered : (m : Message) (b : Bool) → Numbered (read_message m b)
+unfolding message
+message-numbered m b = bind_numbered (format_of m).head _ (head-numbered m) (λ h. body-numbered (format_of m) b h ((format_of m).more h))
+
+-- ## reading calls
+
+pub accepted-refused : {A : Type 0} {n : ℕ} → Accepted ≡ Refused n → A
+accepted-refused e = zero_one (cc)
+
+refused-number : {m n : ℕ} → Refused m ≡ Refused n → m ≡ n
+refused-number e = cc
+
+-- A READING IS REFUSED WITH 1 TO 7, and its answer is then the empty one at the first bit
+pub record ReadingRefused (r : Reading) (n first : ℕ) : Type 0 where
+  pub low : 1 ≤ n
+  pub high : n ≤ 7
+  pub empty : r ≡ no_reading n first
+
+module _ (m how : ℕ) (os : List ℕ) (first end : ℕ) where
+  pub reading-refused : {n : ℕ} → (reading m how os first end).verdict ≡ Refused n → ReadingRefused (reading m how os first end) n first
+  unfolding reading
+  reading-refused {n} e = go (good_call m how (length os) first end) e
+    where
+      w : Bits
+      w = window_of os first end
+
+      inner : (x : Answer (Counted Record)) → read_message (message_of m) (eqb how 1) w ≡ x → (reading_of first (length w) x).verdict ≡ Refused n
+          → ReadingRefused (reading_of first (length w) x) n first
+      inner (got x rest) p e = accepted-refused e
+      inner (refused k) p e =
+          let h = (message-numbered (message_of m) (eqb how 1)).at w k p in
+          let q : k ≡ n = refused-number e in
+          record { low = omega arith; high = omega arith; empty = rw q }
+
+      go : (b : Bool) → (cond b (reading_of first (length w) (read_message (message_of m) (eqb how 1) w)) (no_reading bad_call first)).verdict ≡ Refused n
+          → ReadingRefused (cond b (reading_of first (length w) (read_message (message_of m) (eqb how 1) w)) (no_reading bad_call first)) n first
+      go true e = inner (read_message (message_of m) (eqb how 1) w) refl e
+      go false e = let q : 1 ≡ n = refused-number e in record { low = omega arith; high = omega arith; empty = rw q }
+
+-- ## writing calls
+
+-- A WRITING IS REFUSED WITH 1 OR 8 TO 16, writes no bit and changes no octet
+pub record WritingRefused (w : Writing) (os os' : List ℕ) (n : ℕ) : Type 0 where
+  pub numbers : (n ≡ 1) ⊎ ((8 ≤ n) × (n ≤ 16))
+  pub none_written : w.written ≡ 0
+  pub kept : os' ≡ os
+
+first_no_lem : (a : Asked) (size room : ℕ) → (first_no a size room ≡ 0) ⊎ ((8 ≤ first_no a size room) × (first_no a size room ≤ 16))
+unfolding first_no
+first_no_lem a size room =
+    ask a.fits (ask a.ciphered (ask a.attached (ask a.formed (ask a.alive (ask a.saving (ask a.type3_only (ask a.short
+    (ask (leb size room) (inl refl) (inr (omega arith, omega arith))) (inr (omega arith, omega arith))) (inr (omega arith, omega arith)))
+    (inr (omega arith, omega arith))) (inr (omega arith, omega arith))) (inr (omega arith, omega arith))) (inr (omega arith, omega arith)))
+    (inr (omega arith, omega arith))) (inr (omega arith, omega arith))
+  where
+    ask : (b : Bool) {x y : ℕ} → ((x ≡ 0) ⊎ ((8 ≤ x) × (x ≤ 16))) → ((y ≡ 0) ⊎ ((8 ≤ y) × (y ≤ 16))) → ((cond b x y ≡ 0) ⊎ ((8 ≤ cond b x y) × (cond b x y ≤ 16)))
+    ask true p q = p
+    ask false p q = q
+
+module _ (m : ℕ) (os : List ℕ) (first end : ℕ) (r : Record) where
+  refusal_number_lem : (writing_refusal m (length os) first end r ≡ 0) ⊎ ((writing_refusal m (length os) first end r ≡ 1)
+      ⊎ ((8 ≤ writing_refusal m (length os) first end r) × (writing_refusal m (length os) first end r ≤ 16)))
+  unfolding writing_refusal
+  refusal_number_lem = go (known m && good_window (length os) first end)
+    where
+      x : ℕ
+      x = first_no (message_asked (message_of m) r) (length (message_bits (message_of m) r)) (end - first)
+
+      go : (b : Bool) → (cond b x bad_call ≡ 0) ⊎ ((cond b x bad_call ≡ 1) ⊎ ((8 ≤ cond b x bad_call) × (cond b x bad_call ≤ 16)))
+      go true = ⊎_elim (λ p. inl p) (λ p. inr (inr p)) (first_no_lem (message_asked (message_of m) r) (length (message_bits (message_of m) r)) (end - first))
+      go false = inr (inl refl)
+
+  pub writing-refused : {n : ℕ} → (writing m os first end r).verdict ≡ Refused n → WritingRefused (writing m os first end r) os (octets_written m os first end r) n
+  unfolding writing octets_written
+  writing-refused {n} e = go (writing_refusal m (length os) first end r) refusal_number_lem e
+    where
+      go : (k : ℕ) → ((k ≡ 0) ⊎ ((k ≡ 1) ⊎ ((8 ≤ k) × (k ≤ 16)))) → (writing_of k (length (message_bits (message_of m) r))).verdict ≡ Refused n
+          → WritingRefused (writing_of k (length (message_bits (message_of m) r))) os (octets_after k os (put_bits os first (message_bits (message_of m) r))) n
+      go zero h e = accepted-refused e
+      go (suc k) h e =
+          let q : suc k ≡ n = refused-number e in
+          record {
+            numbers = ⊎_elim (λ p. absurd (omega arith)) (λ p. ⊎_elim (λ o. inl (omega arith)) (λ o. inr (omega arith, omega arith)) p) h;
+            none_written = refl;
+            kept = refl;
+          }

@@ -1,0 +1,17 @@
+pub mod Demand3
+pub mod HeadLaws
+pub mod PlacedHeads
+pub mod QuestionsLaws
+pub mod FormatLaws
+pub mod SlotsLaws
+pub mod DemandLaws
+pub mod AcceptLaws
+pub mod AttachDetachLaws
+pub mod MessageLaws
+pub mod ReadBack
+pub mod PlacedMessages
+pub mod CallNumbers
+pub mod PlacedCalls
+pub mod Demand3Calls
+pub mod RoundTrip
+pub mod Examples

@@ -1,0 +1,175 @@
+-- WHAT THE WRITER TAKES READS BACK: each record that a writing call takes reads back the same, from exactly the bits written; every other
+-- bit is kept.
+use Prim.Native.Nat.{ℕ, zero, suc, ◌+◌, ◌-◌, ◌*◌, ◌≤◌}
+use Rattle.std.proofs.Common.{arith, sym, ◌∙◌, length-append, leb-true, le-leb}
+use Rattle.std.specs.Prelude.{◌≡◌, Bool, true, false, cond, ◌&&◌, List, ◌++◌, length, take, drop, leb, eqb}
+use Rattle.std.proofs.Math.Path.{refl, ap}
+use Rattle.bits.specs.Bits.{Bits, bits_of}
+use Rattle.bits.specs.Reader.{got}
+use Rattle.bits.specs.Placed.{window}
+use Rattle.bits.specs.Written.{put_bits}
+use Rattle.bits.specs.WrittenLaws.{Writes, window-written, kept-before, kept-behind, length-kept}
+use Rattle.elements.specs.Table.{counted}
+use Rattle.elements.specs.Kinds.{identifier_of, content}
+use Rattle.elements.proofs.NumbersLaws.{both}
+use Rattle.messages.specs.Questions.{Asked, first_no}
+use Rattle.messages.proofs.Demand3.{strict-skipping}
+use Rattle.messages.specs.Calls.{Message, message_of, format_of, read_message, known, octets_most, good_window, window_of, reading, message_bits, message_asked, message_normal, SameMessage, writing_refusal, writing_of, writing, octets_written}
+use Rattle.messages.proofs.MessageLaws.{FullList}
+use Rattle.messages.proofs.ReadBack.{messages_regular, normal-same, read_back}
+use Rattle.messages.proofs.CallNumbers.{accepted-refused}
+use Rattle.messages.proofs.Demand3Calls.{call_is, window-is}
+use Rattle.messages.specs.declared.Record.{Record}
+use Rattle.messages.specs.declared.Reading.{Reading}
+use Rattle.messages.specs.declared.Writing.{Writing}
+use Rattle.messages.specs.declared.Verdict.TheVariants.{Accepted}
+
+-- ## a record that passes the questions
+
+pub record Passed (a : Asked) (size room : ℕ) : Type 0 where
+  pub fits : a.fits ≡ true
+  pub ciphered : a.ciphered ≡ true
+  pub attached : a.attached ≡ true
+  pub formed : a.formed ≡ true
+  pub alive : a.alive ≡ true
+  pub saving : a.saving ≡ true
+  pub type3_only : a.type3_only ≡ true
+  pub short : a.short ≡ true
+  pub enough : size ≤ room
+
+-- a question answered with yes, and none behind it with no
+record Yes (b : Bool) (x : ℕ) : Type 0 where
+  yes : b ≡ true
+  next : x ≡ 0
+
+asked-yes : (b : Bool) (n x : ℕ) → cond b x (suc n) ≡ 0 → Yes b x
+asked-yes true n x e = record { yes = refl; next = e }
+asked-yes false n x e = absurd (omega arith)
+
+pub passed : (a : Asked) (size room : ℕ) → first_no a size room ≡ 0 → Passed a size room
+unfolding first_no
+passed a size room e =
+    let q8 = asked-yes a.fits 7 _ e in
+    let q9 = asked-yes a.ciphered 8 _ q8.next in
+    let q10 = asked-yes a.attached 9 _ q9.next in
+    let q11 = asked-yes a.formed 10 _ q10.next in
+    let q12 = asked-yes a.alive 11 _ q11.next in
+    let q13 = asked-yes a.saving 12 _ q12.next in
+    let q14 = asked-yes a.type3_only 13 _ q13.next in
+    let q15 = asked-yes a.short 14 _ q14.next in
+    let q16 = asked-yes (leb size room) 15 0 q15.next in
+    record {
+      fits = q8.yes;
+      ciphered = q9.yes;
+      attached = q10.yes;
+      formed = q11.yes;
+      alive = q12.yes;
+      saving = q13.yes;
+      type3_only = q14.yes;
+      short = q15.yes;
+      enough = leb-true _ _ q16.yes;
+    }
+
+-- ## what was written reads back
+
+-- the answer of a reading that gives v from n bits
+abbrev pub reads_back : ℕ → ℕ → Record → Reading
+reads_back first n v = record { verdict = Accepted; place = first + n; consumed = n; skipped = 0; «record» = v }
+
+-- THE ROUND TRIP of a writing call on m, os, first and end that took r and wrote n bits, with the octets os' afterwards
+pub record RoundTrip (m : ℕ) (os : List ℕ) (first end : ℕ) (r : Record) (n : ℕ) (os' : List ℕ) : Type 0 where
+  -- the strict reading of the same window gives a record from exactly the bits written; so does the window of exactly these bits
+  pub strict : reading m 0 os' first end ≡ reads_back first n (message_normal (message_of m) r)
+  pub strict-exact : reading m 0 os' first (first + n) ≡ reads_back first n (message_normal (message_of m) r)
+  -- the skipping reading too, with 0 skipped
+  pub skipping : reading m 1 os' first end ≡ reads_back first n (message_normal (message_of m) r)
+  pub skipping-exact : reading m 1 os' first (first + n) ≡ reads_back first n (message_normal (message_of m) r)
+  -- that record is the same as r: what is present is equal
+  pub same : SameMessage (message_of m) r (message_normal (message_of m) r)
+  -- every bit outside the message is kept
+  pub before : take first (bits_of os') ≡ take first (bits_of os)
+  pub behind : drop (first + n) (bits_of os') ≡ drop (first + n) (bits_of os)
+  pub length-kept : length os' ≡ length os
+
+-- what a writing call that took the record says
+record Took (m : ℕ) (os : List ℕ) (first end : ℕ) (r : Record) (n : ℕ) : Type 0 where
+  message : known m ≡ true
+  inside : good_window (length os) first end ≡ true
+  asked : Passed (message_asked (message_of m) r) (length (message_bits (message_of m) r)) (end - first)
+  bits : n ≡ length (message_bits (message_of m) r)
+  octets : octets_written m os first end r ≡ put_bits os first (message_bits (message_of m) r)
+
+module _ (m : ℕ) (os : List ℕ) (first end : ℕ) (r : Record) where
+  xs : Bits
+  xs = message_bits (message_of m) r
+
+  granted : writing_refusal m (length os) first end r ≡ 0
+      → (known m ≡ true) × (good_window (length os) first end ≡ true) × Passed (message_asked (message_of m) r) (length xs) (end - first)
+  unfolding writing_refusal xs
+  granted e =
+      let q = asked-yes (known m && good_window (length os) first end) 0 _ e in
+      let p = both (known m) _ q.yes in
+      (p.0, p.1, passed (message_asked (message_of m) r) (length xs) (end - first) q.next)
+
+  took : (n : ℕ) → writing m os first end r ≡ record { verdict = Accepted; written = n } → Took m os first end r n
+  unfolding writing octets_written xs
+  took n e = go (writing_refusal m (length os) first end r) refl e
+    where
+      go : (k : ℕ) → writing_refusal m (length os) first end r ≡ k → writing_of k (length xs) ≡ record { verdict = Accepted; written = n } → Took m os first end r n
+      go zero h e = let g = granted h in record { message = g.0; inside = g.1; asked = g.2; bits = ap (λ (w : Writing). w.written) (sym e); octets = rw h }
+      go (suc k) h e = accepted-refused (sym (ap (λ (w : Writing). w.verdict) e))
+
+-- the record's bits, read strictly
+passed-back : (m : Message) (r : Record) (size room : ℕ) → FullList m r → Passed (message_asked m r) size room → (rest : Bits)
+    → read_message m false (message_bits m r ++ rest) ≡ got (counted 0 (message_normal m r)) rest
+passed-back m r size room ar p rest = read_back m r ar p.fits p.ciphered p.attached p.formed p.alive p.saving p.short rest
+
+-- both readings of a window whose bits begin with those of the record
+reads_back_lem : (m : Message) (r : Record) (size room : ℕ) → FullList m r → Passed (message_asked m r) size room → (b : Bool) (rest : Bits)
+    → read_message m b (message_bits m r ++ rest) ≡ got (counted 0 (message_normal m r)) rest
+reads_back_lem m r size room ar p false rest = passed-back m r size room ar p rest
+reads_back_lem m r size room ar p true rest =
+    strict-skipping identifier_of content (format_of m) (messages_regular m) (message_bits m r ++ rest) (counted 0 (message_normal m r)) rest (passed-back m r size room ar p rest)
+
+pub round_trip : (m : ℕ) (os : List ℕ) (first end : ℕ) (r : Record) (n : ℕ) → FullList (message_of m) r
+    → writing m os first end r ≡ record { verdict = Accepted; written = n } → RoundTrip m os first end r n (octets_written m os first end r)
+round_trip m os first end r n ar e =
+    let t = took m os first end r n e in
+    let w = both (leb (length os) octets_most) _ (rw (window-is (length os) first end) at t.inside) in
+    let v = both (leb first end) _ w.1 in
+    let few : length os ≤ octets_most = leb-true _ _ w.0 in
+    let up : first ≤ end = leb-true _ _ v.0 in
+    let in-octets : end ≤ 8 * length os = leb-true _ _ v.1 in
+    let room = t.asked.enough in
+    let eq = t.bits in
+    let wrote : Writes ys os (record { at = first; end = end }) os' (record { at = first + length ys; end = end }) =
+    record { room = omega arith; octets = t.octets; next = refl } in
+    let exact : Writes ys os (record { at = first; end = first + n }) os' (record { at = first + length ys; end = first + n }) =
+    record { room = omega arith; octets = t.octets; next = refl } in
+    let same_length : length os' ≡ length os = length-kept wrote in
+    let good : good_window (length os') first end ≡ true = rw same_length t.inside in
+    let good-exact : good_window (length os') first (first + n) ≡ true =
+    rw (same_length, window-is (length os) first (first + n), le-leb (length os) octets_most few, le-leb first (first + n) (omega arith), le-leb (first + n) (8 * length os) (omega arith)) in
+    record {
+      strict = answer 0 refl end t.message t.asked good (window os (record { at = first + length ys; end = end })) (window-written wrote) eq;
+      strict-exact = answer 0 refl (first + n) t.message t.asked good-exact (window os (record { at = first + length ys; end = first + n })) (window-written exact) eq;
+      skipping = answer 1 refl end t.message t.asked good (window os (record { at = first + length ys; end = end })) (window-written wrote) eq;
+      skipping-exact = answer 1 refl (first + n) t.message t.asked good-exact (window os (record { at = first + length ys; end = first + n })) (window-written exact) eq;
+      same = normal-same (message_of m) r t.asked.fits ar;
+      before = kept-before wrote;
+      behind = rw eq (kept-behind wrote);
+      length-kept = same_length;
+    }
+  where
+    ys : Bits
+    ys = message_bits (message_of m) r
+
+    os' : List ℕ
+    os' = octets_written m os first end r
+
+    answer : (how : ℕ) → leb how 1 ≡ true → (stop : ℕ) → known m ≡ true → Passed (message_asked (message_of m) r) (length ys) (end - first)
+        → good_window (length os') first stop ≡ true → (rest : Bits) → window_of os' first stop ≡ ys ++ rest → n ≡ length ys
+        → reading m how os' first stop ≡ reads_back first n (message_normal (message_of m) r)
+    answer how h stop k p good rest e l =
+        let c : length (ys ++ rest) - length rest ≡ n = omega (arith, length-append ys rest) in
+        call_is m how os' first stop k h good ∙ rw (e, reads_back_lem (message_of m) r _ _ ar p (eqb how 1) rest) (rw c)
