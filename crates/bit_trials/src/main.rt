@@ -5,7 +5,7 @@
 ghost use Rattle.std.specs.Prelude.{◌≤◌};
 
 use bits::bitbuffer::{Cursor, Field, Moved};
-use libc::STDOUT_FILENO;
+use std::io;
 
 fn wide(octet: u8) -> u64 {
     octet as u64
@@ -42,38 +42,37 @@ fn filled(offset: usize, width: usize) -> [u8; 11]
     octets
 }
 
-fn print_space() {
-    io::write_all(STDOUT_FILENO, b" ");
+fn print_space(rt: &impl Print) -> io::Result<()> {
+    print!(rt; " ")
 }
 
-fn print_refusal(number: u8) {
-    io::write_all(STDOUT_FILENO, b"refused ");
-    io::print_decimal(STDOUT_FILENO, number as u64);
+fn print_refusal(rt: &impl Print, number: u8) -> io::Result<()> {
+    print!(rt; "refused {number}")
 }
 
-fn print_octets(octets: &[u8; 11]) {
+fn print_octets(rt: &impl Print, octets: &[u8; 11]) -> io::Result<()> {
     for i in 0..11 {
-        io::print_hex(STDOUT_FILENO, wide(octets[i]), 2);
+        let octet = wide(octets[i]);
+        print!(rt; "{octet:02x}")?;
     }
+    Ok(())
 }
 
-fn print_written(moved: Moved, octets: &[u8; 11]) {
+fn print_written(rt: &impl Print, moved: Moved, octets: &[u8; 11]) -> io::Result<()> {
     match moved {
-        Moved::To(_) => print_octets(octets),
-        Moved::Refused(n) => print_refusal(n),
+        Moved::To(_) => print_octets(rt, octets),
+        Moved::Refused(n) => print_refusal(rt, n),
     }
 }
 
-fn print_read(field: Field) {
+fn print_read(rt: &impl Print, field: Field) -> io::Result<()> {
     match field {
-        Field::Value(v, _) => {
-            io::print_hex(STDOUT_FILENO, v, 16);
-        }
-        Field::Refused(n) => print_refusal(n),
+        Field::Value(v, _) => print!(rt; "{v:016x}"),
+        Field::Refused(n) => print_refusal(rt, n),
     }
 }
 
-fn trial(offset: usize, width: usize)
+fn trial(rt: &impl Print, offset: usize, width: usize) -> io::Result<()>
     requires { (offset ≤ 15) × (width ≤ 64) }
 {
     let mut octets = filled(offset, width);
@@ -87,27 +86,27 @@ fn trial(offset: usize, width: usize)
         end: 88,
     };
     let moved = to.write(&mut octets, value, width);
-    io::print_decimal(STDOUT_FILENO, offset as u64);
-    print_space();
-    io::print_decimal(STDOUT_FILENO, width as u64);
-    print_space();
-    print_written(moved, &octets);
-    print_space();
-    print_read(from.read(&octets, width));
-    io::write_all(STDOUT_FILENO, b"\n");
+    print!(rt; "{offset} {width}")?;
+    print_space(rt)?;
+    print_written(rt, moved, &octets)?;
+    print_space(rt)?;
+    print_read(rt, from.read(&octets, width))?;
+    println!(rt)
 }
 
 // Every width at one offset.
-fn trials(offset: usize)
+fn trials(rt: &impl Print, offset: usize) -> io::Result<()>
     requires { offset ≤ 15 }
 {
     for width in 0..=64 {
-        trial(offset, width);
+        trial(rt, offset, width)?;
     }
+    Ok(())
 }
 
-fn main() {
+fn main(rt: HostRuntime) -> io::Result<()> {
     for offset in 0..16 {
-        trials(offset);
+        trials(&rt, offset)?;
     }
+    Ok(())
 }

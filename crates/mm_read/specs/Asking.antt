@@ -7,7 +7,6 @@ use Rattle.mm_read.specs.declared.call.Fault.{Fault}
 use Rattle.mm_read.specs.declared.call.Fault.TheVariants.{WordsMissing, EndMissing, WordsExtra, MessageUnknown, ReadingUnknown, DigitsBad, DigitsOdd, BitUnknown, NumberTooLarge}
 use Rattle.mm_read.specs.declared.call.Number.{Number}
 use Rattle.mm_read.specs.declared.call.Number.TheVariants.{Value, Unread}
-use Rattle.mm_read.specs.declared.call.Call.{Call}
 use Rattle.mm_read.specs.declared.call.Asked.{Asked}
 use Rattle.mm_read.specs.declared.call.Asked.TheVariants as asked
 

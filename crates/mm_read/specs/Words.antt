@@ -1,5 +1,5 @@
 -- The words of a line, and what they spell. A text is the list of its characters' codes.
-use Rattle.std.specs.Prelude.{ℕ, suc, ◌+◌, ◌-◌, ◌*◌, ◌%◌, ◌^◌, Bool, true, false, cond, ◌&&◌, List, [], ◌∷◌, take, drop, ◌==◌, nat_le, nat_lt}
+use Rattle.std.specs.Prelude.{◌≡◌, ℕ, suc, ◌+◌, ◌-◌, ◌*◌, ◌%◌, ◌^◌, ◌≤◌, Bool, true, false, cond, ◌&&◌, List, [], ◌∷◌, length, take, drop, ◌==◌, nat_le, nat_lt}
 use Rattle.mm_read.specs.declared.words.Decimal.{Decimal}
 use Rattle.mm_read.specs.declared.words.Decimal.TheVariants.{Value, TooLarge}
 
@@ -60,3 +60,7 @@ decimal_from n (x ∷ xs) = decimal_from (10 * n + digit_of x) xs
 -- the number that decimal digits write, if it fits 64 bits
 unfoldable pub decimal_of : List ℕ → Decimal
 decimal_of xs = cond (nat_lt (decimal_from 0 xs) (2 ^ 64)) (Value (decimal_from 0 xs)) TooLarge
+
+-- the first n of a text are there, and are n
+abbrev pub IsPrefixLen : ℕ → List ℕ → Type 0
+IsPrefixLen n xs = (n ≤ length xs) × (n ≡ length (take n xs))

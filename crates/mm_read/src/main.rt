@@ -7,13 +7,14 @@ mod line;
 mod show;
 mod words;
 
-ghost use Rattle.std.specs.Prelude.{◌≡◌, ◌≤◌, length, take};
+ghost use Rattle.std.specs.Prelude.{◌≡◌, ◌≤◌, length, take, IfOk};
 ghost use Rattle.mm_read.specs.Lines.{held, held_by};
 
 use call::{Asked, Call, Fault, asked_by, octets_word};
-use libc::STDIN_FILENO;
 use line::{Held, keep, without_return};
 use messages::read;
+use std::io;
+use std::io::Read;
 use std::num::wrapping_add_u64;
 use words::put_octets;
 
@@ -25,40 +26,54 @@ const OCTETS: usize = 8192;
 
 const NEWLINE: u8 = 10;
 
-fn answer_call(hex: &[u8], number: u64, c: Call)
+// How much is read at once.
+const PIECE: usize = 4096;
+
+fn answer_call(rt: &impl Print, hex: &[u8], number: u64, c: Call) -> io::Result<()>
     requires { length hex.now ≤ 16384 }
 {
     let mut octets = [0u8; OCTETS];
     let n = put_octets(hex, &mut octets);
-    show::heading(number, c);
+    show::heading(rt, number, c)?;
     show::reading(
+        rt,
         c.message,
         read(&octets[..n], c.first, c.end, c.message, c.wanted),
-    );
+    )
 }
 
 // A line without its end.
-fn answer(line: &[u8], number: u64)
+fn answer(rt: &impl Print, line: &[u8], number: u64) -> io::Result<()>
     requires { length line.now ≤ 16384 }
 {
     let a = asked_by(line);
     match a {
-        Asked::Nothing => {}
-        Asked::Unread(f) => show::unread(number, f),
-        Asked::Call(c) => answer_call(octets_word(line), number, c),
+        Asked::Nothing => Ok(()),
+        Asked::Unread(f) => show::unread(rt, number, f),
+        Asked::Call(c) => answer_call(rt, octets_word(line), number, c),
     }
 }
 
 // The line that is held.
-fn answer_held(line: &[u8], h: Held)
+fn answer_held(rt: &impl Print, line: &[u8], h: Held) -> io::Result<()>
     requires { length line.now ≤ 16384 }
 {
     let count = h.count;
     if count < line.len() {
-        answer(without_return(&line[..count]), h.number);
+        answer(rt, without_return(&line[..count]), h.number)
     } else {
-        show::unread(h.number, Fault::LineTooLong);
+        show::unread(rt, h.number, Fault::LineTooLong)
     }
+}
+
+// Answers the line that is held if a character ends it.
+fn answer_ended(rt: &impl Print, line: &[u8], h: Held, character: u8) -> io::Result<()>
+    requires { length line.now ≤ 16384 }
+{
+    if character == NEWLINE {
+        return answer_held(rt, line, h);
+    }
+    Ok(())
 }
 
 fn take_character(line: &mut [u8], h: Held, character: u8) -> Held
@@ -66,7 +81,6 @@ fn take_character(line: &mut [u8], h: Held, character: u8) -> Held
     ensures { take result.count line.new ≡ held_by (length line.old) (take h.count line.old) character }
 {
     if character == NEWLINE {
-        answer_held(line, h);
         return Held {
             count: 0,
             number: wrapping_add_u64(h.number, 1),
@@ -79,30 +93,28 @@ fn take_character(line: &mut [u8], h: Held, character: u8) -> Held
 }
 
 // Answers each line that ends in a piece of the input.
-fn take_piece(line: &mut [u8], h: Held, piece: &[u8]) -> Held
+fn take_piece(rt: &impl Print, line: &mut [u8], h: Held, piece: &[u8]) -> io::Result<Held>
     requires { length line.old ≤ 16384 }
-    ensures { take result.count line.new ≡ held (length line.old) (take h.count line.old) piece.now }
+    ensures { IfOk result (λ n. take n.count line.new ≡ held (length line.old) (take h.count line.old) piece.now) }
 {
     let mut count = h.count;
     let mut number = h.number;
     let mut i: usize = 0;
     while i < piece.len() {
-        let next = take_character(
-            line,
-            Held {
-                count: count,
-                number: number,
-            },
-            piece[i],
-        );
+        let before = Held {
+            count: count,
+            number: number,
+        };
+        answer_ended(rt, line, before, piece[i])?;
+        let next = take_character(line, before, piece[i]);
         count = next.count;
         number = next.number;
         i += 1;
     }
-    Held {
+    Ok(Held {
         count: count,
         number: number,
-    }
+    })
 }
 
 // What is held behind a piece of the input, and whether there was one.
@@ -112,25 +124,31 @@ struct Taken {
     more: bool,
 }
 
-fn take_some(line: &mut [u8; LINE], h: Held) -> Taken {
-    let mut piece = io::buffer();
-    let got = libc::read(STDIN_FILENO, &mut piece);
-    let n = io::count(got, &piece);
-    Taken {
-        held: take_piece(line, h, &piece[..n]),
+fn take_some(
+    rt: &impl Print,
+    input: &mut impl Read,
+    line: &mut [u8; LINE],
+    h: Held,
+) -> io::Result<Taken> {
+    let mut piece = [0u8; PIECE];
+    let n = input.read(&mut piece)?;
+    Ok(Taken {
+        held: take_piece(rt, line, h, &piece[..n])?,
         more: 0 < n,
-    }
+    })
 }
 
 // A last line without a newline.
-fn answer_last(line: &[u8; LINE], h: Held) {
+fn answer_last(rt: &impl Print, line: &[u8; LINE], h: Held) -> io::Result<()> {
     if 0 < h.count {
-        answer_held(line, h);
+        return answer_held(rt, line, h);
     }
+    Ok(())
 }
 
-// A proved loop has to end, so it counts down from a number that no run uses up.
-fn main() {
+// A proved loop has to end, so it counts up to a number that no run reaches.
+fn main(rt: HostRuntime) -> io::Result<()> {
+    let mut input = rt.reader();
     let mut line = [0u8; LINE];
     let mut taken = Taken {
         held: Held {
@@ -139,10 +157,11 @@ fn main() {
         },
         more: true,
     };
-    let mut turns = u64::MAX;
-    while turns > 0 && taken.more {
-        taken = take_some(&mut line, taken.held);
-        turns -= 1;
+    for _ in 0..u64::MAX {
+        if !taken.more {
+            break;
+        }
+        taken = take_some(&rt, &mut input, &mut line, taken.held)?;
     }
-    answer_last(&line, taken.held);
+    answer_last(&rt, &line, taken.held)
 }

@@ -11,60 +11,62 @@ use elements::group_identity_uplink::{GroupIdentityUplink, OptionalUplinks};
 use elements::typed_pdu_fields::{
     OptionalType3, OptionalType4, OptionalU8, OptionalU32, OptionalU64,
 };
-use libc::STDOUT_FILENO;
 use messages::d_attach_detach_group_identity::DAttachDetachGroupIdentity;
 use messages::d_location_update_accept::DLocationUpdateAccept;
 use messages::u_location_update_demand::ULocationUpdateDemand;
 use messages::{ACCEPT, ATTACH_DETACH, DEMAND, Reading, Record, STRICT, Verdict};
+use std::io;
 
-fn text(words: &[u8]) {
-    io::write_all(STDOUT_FILENO, words);
+fn text(rt: &impl Print, words: &[u8]) -> io::Result<()> {
+    rt.write_all(words)
 }
 
-fn number(n: u64) {
-    io::print_decimal(STDOUT_FILENO, n);
+fn number(rt: &impl Print, n: u64) -> io::Result<()> {
+    rt.print(n)
 }
 
-fn step() {
-    text(b"  ");
+fn step(rt: &impl Print) -> io::Result<()> {
+    text(rt, b"  ")
 }
 
-fn indent(level: u64) {
+fn indent(rt: &impl Print, level: u64) -> io::Result<()> {
     for _ in 0..level {
-        step();
+        step(rt)?;
     }
+    Ok(())
 }
 
-fn name(level: u64, words: &[u8]) {
-    indent(level);
-    text(words);
-    text(b": ");
+fn name(rt: &impl Print, level: u64, words: &[u8]) -> io::Result<()> {
+    indent(rt, level)?;
+    text(rt, words)?;
+    text(rt, b": ")
 }
 
-fn line(level: u64, words: &[u8], value: &[u8]) {
-    name(level, words);
-    text(value);
-    text(b"\n");
+fn line(rt: &impl Print, level: u64, words: &[u8], value: &[u8]) -> io::Result<()> {
+    name(rt, level, words)?;
+    text(rt, value)?;
+    text(rt, b"\n")
 }
 
-fn field(level: u64, words: &[u8], n: u64) {
-    name(level, words);
-    number(n);
-    text(b"\n");
+fn field(rt: &impl Print, level: u64, words: &[u8], n: u64) -> io::Result<()> {
+    name(rt, level, words)?;
+    number(rt, n)?;
+    text(rt, b"\n")
 }
 
-fn field_if(level: u64, words: &[u8], present: bool, n: u64) {
+fn field_if(rt: &impl Print, level: u64, words: &[u8], present: bool, n: u64) -> io::Result<()> {
     if present {
-        field(level, words, n);
+        field(rt, level, words, n)?;
     }
+    Ok(())
 }
 
-fn optional_u64(words: &[u8], n: OptionalU64) {
-    field_if(1, words, n.present, n.value);
+fn optional_u64(rt: &impl Print, words: &[u8], n: OptionalU64) -> io::Result<()> {
+    field_if(rt, 1, words, n.present, n.value)
 }
 
-fn optional_u8(level: u64, words: &[u8], n: OptionalU8) {
-    field_if(level, words, n.present, n.value as u64);
+fn optional_u8(rt: &impl Print, level: u64, words: &[u8], n: OptionalU8) -> io::Result<()> {
+    field_if(rt, level, words, n.present, n.value as u64)
 }
 
 // The digits that so many bits fill.
@@ -72,112 +74,121 @@ fn hex_digits(bits: usize) -> usize {
     bits / 4 + (bits % 4 + 3) / 4
 }
 
-fn hex(words: &[u8], n: u64, digits: usize) {
-    name(2, words);
-    text(b"0x");
-    io::print_hex(STDOUT_FILENO, n, digits);
-    text(b"\n");
+fn hex(rt: &impl Print, words: &[u8], n: u64, digits: usize) -> io::Result<()> {
+    name(rt, 2, words)?;
+    text(rt, b"0x")?;
+    print!(rt; "{n:0digits$x}")?;
+    text(rt, b"\n")
 }
 
 // The data of an element of so many bits, of which a record holds 64.
-fn data_of(bits: usize, n: u64) {
+fn data_of(rt: &impl Print, bits: usize, n: u64) -> io::Result<()> {
     if bits <= 64 {
-        hex(b"data", n, hex_digits(bits));
+        hex(rt, b"data", n, hex_digits(bits))?;
     } else {
-        hex(b"first 64 bits of the data", n, 16);
+        hex(rt, b"first 64 bits of the data", n, 16)?;
     }
+    Ok(())
 }
 
-fn type3(words: &[u8], o: OptionalType3) {
+fn type3(rt: &impl Print, words: &[u8], o: OptionalType3) -> io::Result<()> {
     if o.present {
         let e = o.value;
-        line(1, words, b"present");
-        field(2, b"length in bits", e.len as u64);
-        data_of(e.len, e.data);
+        line(rt, 1, words, b"present")?;
+        field(rt, 2, b"length in bits", e.len as u64)?;
+        data_of(rt, e.len, e.data)?;
     }
+    Ok(())
 }
 
-fn type4(words: &[u8], o: OptionalType4) {
+fn type4(rt: &impl Print, words: &[u8], o: OptionalType4) -> io::Result<()> {
     if o.present {
         let e = o.value;
-        line(1, words, b"present");
-        field(2, b"entries", e.elems as u64);
+        line(rt, 1, words, b"present")?;
+        field(rt, 2, b"entries", e.elems as u64)?;
         field(
+            rt,
             2,
             b"length in bits behind the number of entries",
             e.len as u64,
-        );
-        data_of(e.len, e.data);
+        )?;
+        data_of(rt, e.len, e.data)?;
     }
+    Ok(())
 }
 
-fn class_field(words: &[u8], n: u8) {
-    field(2, words, n as u64);
+fn class_field(rt: &impl Print, words: &[u8], n: u8) -> io::Result<()> {
+    field(rt, 2, words, n as u64)
 }
 
-fn class_fields(k: ClassOfMs) {
-    class_field(b"frequency simplex/duplex", k.freq_simplex_duplex);
-    class_field(b"multislot phase modulation", k.multislot_phase_mod);
-    class_field(b"concurrent multicarrier", k.concurrent_multicarrier);
-    class_field(b"voice", k.voice);
+fn class_fields(rt: &impl Print, k: ClassOfMs) -> io::Result<()> {
+    class_field(rt, b"frequency simplex/duplex", k.freq_simplex_duplex)?;
+    class_field(rt, b"multislot phase modulation", k.multislot_phase_mod)?;
+    class_field(rt, b"concurrent multicarrier", k.concurrent_multicarrier)?;
+    class_field(rt, b"voice", k.voice)?;
     class_field(
+        rt,
         b"end-to-end encryption not supported",
         k.e2e_encryption_not_supported,
-    );
-    class_field(b"circuit mode data", k.circuit_mode_data);
-    class_field(b"TETRA packet data", k.tetra_packet_data);
-    class_field(b"fast switching", k.fast_switching);
-    class_field(b"DCK encryption", k.dck_encryption);
-    class_field(b"CLCH needed", k.clch_needed);
-    class_field(b"concurrent circuit mode", k.concurrent_circuit_mode);
+    )?;
+    class_field(rt, b"circuit mode data", k.circuit_mode_data)?;
+    class_field(rt, b"TETRA packet data", k.tetra_packet_data)?;
+    class_field(rt, b"fast switching", k.fast_switching)?;
+    class_field(rt, b"DCK encryption", k.dck_encryption)?;
+    class_field(rt, b"CLCH needed", k.clch_needed)?;
+    class_field(rt, b"concurrent circuit mode", k.concurrent_circuit_mode)
 }
 
-fn more_class_fields(k: ClassOfMs) {
-    class_field(b"original advanced link", k.original_advanced_link);
-    class_field(b"minimum mode", k.minimum_mode);
+fn more_class_fields(rt: &impl Print, k: ClassOfMs) -> io::Result<()> {
+    class_field(rt, b"original advanced link", k.original_advanced_link)?;
+    class_field(rt, b"minimum mode", k.minimum_mode)?;
     class_field(
+        rt,
         b"carrier specific signalling",
         k.carrier_specific_signalling,
-    );
-    class_field(b"authentication", k.authentication);
-    class_field(b"SCK encryption", k.sck_encryption);
-    class_field(b"air interface version", k.air_interface_version);
-    class_field(b"common SCCH", k.common_scch);
-    class_field(b"reserved 21", k.reserved_21);
-    class_field(b"MAC-D-BLCK", k.mac_d_blck);
-    class_field(b"extended advanced link", k.extended_advanced_link);
-    class_field(b"D8PSK", k.d8psk);
+    )?;
+    class_field(rt, b"authentication", k.authentication)?;
+    class_field(rt, b"SCK encryption", k.sck_encryption)?;
+    class_field(rt, b"air interface version", k.air_interface_version)?;
+    class_field(rt, b"common SCCH", k.common_scch)?;
+    class_field(rt, b"reserved 21", k.reserved_21)?;
+    class_field(rt, b"MAC-D-BLCK", k.mac_d_blck)?;
+    class_field(rt, b"extended advanced link", k.extended_advanced_link)?;
+    class_field(rt, b"D8PSK", k.d8psk)
 }
 
-fn class_of_ms(o: OptionalClassOfMs) {
+fn class_of_ms(rt: &impl Print, o: OptionalClassOfMs) -> io::Result<()> {
     if o.present {
         let k = o.value;
-        line(1, b"class of MS", b"present");
-        class_fields(k);
-        more_class_fields(k);
+        line(rt, 1, b"class of MS", b"present")?;
+        class_fields(rt, k)?;
+        more_class_fields(rt, k)?;
     }
+    Ok(())
 }
 
-fn energy_saving(o: OptionalEnergySavingInformation) {
+fn energy_saving(rt: &impl Print, o: OptionalEnergySavingInformation) -> io::Result<()> {
     if o.present {
         let e = o.value;
-        line(1, b"energy saving information", b"present");
-        field(2, b"energy saving mode", e.energy_saving_mode as u64);
-        optional_u8(2, b"frame number", e.frame_number);
-        optional_u8(2, b"multiframe number", e.multiframe_number);
+        line(rt, 1, b"energy saving information", b"present")?;
+        field(rt, 2, b"energy saving mode", e.energy_saving_mode as u64)?;
+        optional_u8(rt, 2, b"frame number", e.frame_number)?;
+        optional_u8(rt, 2, b"multiframe number", e.multiframe_number)?;
     }
+    Ok(())
 }
 
 // `group 1: attachment`, or detachment.
-fn group(level: u64, index: u64, attached: bool) {
-    indent(level);
-    text(b"group ");
-    number(index);
+fn group(rt: &impl Print, level: u64, index: u64, attached: bool) -> io::Result<()> {
+    indent(rt, level)?;
+    text(rt, b"group ")?;
+    number(rt, index)?;
     if attached {
-        text(b": attachment\n");
+        text(rt, b": attachment\n")?;
     } else {
-        text(b": detachment\n");
+        text(rt, b": detachment\n")?;
     }
+    Ok(())
 }
 
 fn optional(present: bool, value: u32) -> OptionalU32 {
@@ -187,310 +198,365 @@ fn optional(present: bool, value: u32) -> OptionalU32 {
     }
 }
 
-fn optional_u32(level: u64, words: &[u8], n: OptionalU32) {
-    field_if(level, words, n.present, n.value as u64);
+fn optional_u32(rt: &impl Print, level: u64, words: &[u8], n: OptionalU32) -> io::Result<()> {
+    field_if(rt, level, words, n.present, n.value as u64)
 }
 
-fn address(level: u64, gssi: OptionalU32, extension: OptionalU32, vgssi: OptionalU32) {
-    optional_u32(level, b"GSSI", gssi);
-    optional_u32(level, b"address extension", extension);
-    optional_u32(level, b"VGSSI", vgssi);
+fn address(
+    rt: &impl Print,
+    level: u64,
+    gssi: OptionalU32,
+    extension: OptionalU32,
+    vgssi: OptionalU32,
+) -> io::Result<()> {
+    optional_u32(rt, level, b"GSSI", gssi)?;
+    optional_u32(rt, level, b"address extension", extension)?;
+    optional_u32(rt, level, b"VGSSI", vgssi)
 }
 
-fn uplink(level: u64, g: GroupIdentityUplink) {
+fn uplink(rt: &impl Print, level: u64, g: GroupIdentityUplink) -> io::Result<()> {
     field_if(
+        rt,
         level,
         b"class of usage",
         g.class_of_usage_present,
         g.class_of_usage as u64,
-    );
+    )?;
     field_if(
+        rt,
         level,
         b"group identity detachment uplink",
         g.group_identity_detachment_uplink_present,
         g.group_identity_detachment_uplink as u64,
-    );
+    )?;
     address(
+        rt,
         level,
         optional(g.gssi_present, g.gssi),
         optional(g.address_extension_present, g.address_extension),
         optional(g.vgssi_present, g.vgssi),
-    );
+    )
 }
 
-fn uplinks(o: OptionalUplinks) {
+fn uplinks(rt: &impl Print, o: OptionalUplinks) -> io::Result<()> {
     if o.present {
         let count = o.count;
         let groups = o.groups;
-        line(2, b"group identity uplink", b"present");
-        field(3, b"groups", count as u64);
-        let mut i: usize = 0;
-        while i < 63 {
+        line(rt, 2, b"group identity uplink", b"present")?;
+        field(rt, 3, b"groups", count as u64)?;
+        for i in 0..63 {
             if i < count {
                 let g = groups[i];
-                group(3, i as u64 + 1, g.class_of_usage_present);
-                uplink(4, g);
+                group(rt, 3, i as u64 + 1, g.class_of_usage_present)?;
+                uplink(rt, 4, g)?;
             }
-            i += 1;
         }
     }
+    Ok(())
 }
 
-fn downlink(level: u64, g: GroupIdentityDownlink) {
+fn downlink(rt: &impl Print, level: u64, g: GroupIdentityDownlink) -> io::Result<()> {
     let a = g.group_identity_attachment;
     field_if(
+        rt,
         level,
         b"group identity attachment lifetime",
         g.group_identity_attachment_present,
         a.group_identity_attachment_lifetime as u64,
-    );
+    )?;
     field_if(
+        rt,
         level,
         b"class of usage",
         g.group_identity_attachment_present,
         a.class_of_usage as u64,
-    );
+    )?;
     field_if(
+        rt,
         level,
         b"group identity detachment uplink",
         g.group_identity_detachment_uplink_present,
         g.group_identity_detachment_uplink as u64,
-    );
+    )?;
     address(
+        rt,
         level,
         optional(g.gssi_present, g.gssi),
         optional(g.address_extension_present, g.address_extension),
         optional(g.vgssi_present, g.vgssi),
-    );
+    )
 }
 
-fn downlinks(level: u64, o: OptionalDownlinks)
+fn downlinks(rt: &impl Print, level: u64, o: OptionalDownlinks) -> io::Result<()>
     requires { level ≤ 2 }
 {
     if o.present {
         let count = o.count;
         let groups = o.groups;
-        line(level, b"group identity downlink", b"present");
-        field(level + 1, b"groups", count as u64);
-        let mut i: usize = 0;
-        while i < 63 {
+        line(rt, level, b"group identity downlink", b"present")?;
+        field(rt, level + 1, b"groups", count as u64)?;
+        for i in 0..63 {
             if i < count {
                 let g = groups[i];
-                group(level + 1, i as u64 + 1, g.group_identity_attachment_present);
-                downlink(level + 2, g);
+                group(
+                    rt,
+                    level + 1,
+                    i as u64 + 1,
+                    g.group_identity_attachment_present,
+                )?;
+                downlink(rt, level + 2, g)?;
             }
-            i += 1;
         }
     }
+    Ok(())
 }
 
-fn location_demand(o: OptionalLocationDemand) {
+fn location_demand(rt: &impl Print, o: OptionalLocationDemand) -> io::Result<()> {
     if o.present {
         let v = o.value;
-        line(1, b"group identity location demand", b"present");
+        line(rt, 1, b"group identity location demand", b"present")?;
         field(
+            rt,
             2,
             b"group identity attach/detach mode",
             v.group_identity_attach_detach_mode as u64,
-        );
-        uplinks(v.group_identity_uplink);
+        )?;
+        uplinks(rt, v.group_identity_uplink)?;
     }
+    Ok(())
 }
 
-fn location_accept(o: OptionalLocationAccept) {
+fn location_accept(rt: &impl Print, o: OptionalLocationAccept) -> io::Result<()> {
     if o.present {
         let v = o.value;
-        line(1, b"group identity location accept", b"present");
+        line(rt, 1, b"group identity location accept", b"present")?;
         field(
+            rt,
             2,
             b"group identity accept/reject",
             v.group_identity_accept_reject as u64,
-        );
-        downlinks(2, v.group_identity_downlink);
+        )?;
+        downlinks(rt, 2, v.group_identity_downlink)?;
     }
+    Ok(())
 }
 
-fn demand_head(d: ULocationUpdateDemand) {
-    field(1, b"location update type", d.location_update_type as u64);
-    field(1, b"request to append LA", d.request_to_append_la as u64);
-    field(1, b"cipher control", d.cipher_control as u64);
-    optional_u64(b"ciphering parameters", d.ciphering_parameters);
-    class_of_ms(d.class_of_ms);
-    optional_u8(1, b"energy saving mode", d.energy_saving_mode);
-    optional_u64(b"LA information", d.la_information);
-    optional_u64(b"SSI", d.ssi);
-    optional_u64(b"address extension", d.address_extension);
-}
-
-fn demand(d: ULocationUpdateDemand) {
-    demand_head(d);
-    location_demand(d.group_identity_location_demand);
-    type3(b"group report response", d.group_report_response);
-    type3(b"authentication uplink", d.authentication_uplink);
-    type3(b"extended capabilities", d.extended_capabilities);
-    type3(b"proprietary", d.proprietary);
-}
-
-fn accept_head(a: DLocationUpdateAccept) {
+fn demand_head(rt: &impl Print, d: ULocationUpdateDemand) -> io::Result<()> {
     field(
+        rt,
+        1,
+        b"location update type",
+        d.location_update_type as u64,
+    )?;
+    field(
+        rt,
+        1,
+        b"request to append LA",
+        d.request_to_append_la as u64,
+    )?;
+    field(rt, 1, b"cipher control", d.cipher_control as u64)?;
+    optional_u64(rt, b"ciphering parameters", d.ciphering_parameters)?;
+    class_of_ms(rt, d.class_of_ms)?;
+    optional_u8(rt, 1, b"energy saving mode", d.energy_saving_mode)?;
+    optional_u64(rt, b"LA information", d.la_information)?;
+    optional_u64(rt, b"SSI", d.ssi)?;
+    optional_u64(rt, b"address extension", d.address_extension)
+}
+
+fn demand(rt: &impl Print, d: ULocationUpdateDemand) -> io::Result<()> {
+    demand_head(rt, d)?;
+    location_demand(rt, d.group_identity_location_demand)?;
+    type3(rt, b"group report response", d.group_report_response)?;
+    type3(rt, b"authentication uplink", d.authentication_uplink)?;
+    type3(rt, b"extended capabilities", d.extended_capabilities)?;
+    type3(rt, b"proprietary", d.proprietary)
+}
+
+fn accept_head(rt: &impl Print, a: DLocationUpdateAccept) -> io::Result<()> {
+    field(
+        rt,
         1,
         b"location update accept type",
         a.location_update_accept_type as u64,
-    );
-    optional_u64(b"SSI", a.ssi);
-    optional_u64(b"address extension", a.address_extension);
-    optional_u64(b"subscriber class", a.subscriber_class);
-    energy_saving(a.energy_saving_information);
+    )?;
+    optional_u64(rt, b"SSI", a.ssi)?;
+    optional_u64(rt, b"address extension", a.address_extension)?;
+    optional_u64(rt, b"subscriber class", a.subscriber_class)?;
+    energy_saving(rt, a.energy_saving_information)?;
     optional_u64(
+        rt,
         b"SCCH information and distribution on 18th frame",
         a.scch_information_and_distribution_on_18th_frame,
-    );
+    )
 }
 
-fn accept(a: DLocationUpdateAccept) {
-    accept_head(a);
-    type4(b"new registered area", a.new_registered_area);
-    type3(b"security downlink", a.security_downlink);
-    location_accept(a.group_identity_location_accept);
+fn accept(rt: &impl Print, a: DLocationUpdateAccept) -> io::Result<()> {
+    accept_head(rt, a)?;
+    type4(rt, b"new registered area", a.new_registered_area)?;
+    type3(rt, b"security downlink", a.security_downlink)?;
+    location_accept(rt, a.group_identity_location_accept)?;
     type3(
+        rt,
         b"default group attachment lifetime",
         a.default_group_attachment_lifetime,
-    );
-    type3(b"authentication downlink", a.authentication_downlink);
+    )?;
+    type3(rt, b"authentication downlink", a.authentication_downlink)?;
     type4(
+        rt,
         b"group identity security related information",
         a.group_identity_security_related_information,
-    );
-    type3(b"cell type control", a.cell_type_control);
-    type3(b"proprietary", a.proprietary);
+    )?;
+    type3(rt, b"cell type control", a.cell_type_control)?;
+    type3(rt, b"proprietary", a.proprietary)
 }
 
-fn attach_detach(d: DAttachDetachGroupIdentity) {
-    field(1, b"group identity report", d.group_identity_report as u64);
+fn attach_detach(rt: &impl Print, d: DAttachDetachGroupIdentity) -> io::Result<()> {
     field(
+        rt,
+        1,
+        b"group identity report",
+        d.group_identity_report as u64,
+    )?;
+    field(
+        rt,
         1,
         b"group identity acknowledgement request",
         d.group_identity_acknowledgement_request as u64,
-    );
+    )?;
     field(
+        rt,
         1,
         b"group identity attach/detach mode",
         d.group_identity_attach_detach_mode as u64,
-    );
-    type3(b"proprietary", d.proprietary);
-    type3(b"group report response", d.group_report_response);
-    downlinks(1, d.group_identity_downlink);
+    )?;
+    type3(rt, b"proprietary", d.proprietary)?;
+    type3(rt, b"group report response", d.group_report_response)?;
+    downlinks(rt, 1, d.group_identity_downlink)?;
     type4(
+        rt,
         b"group identity security related information",
         d.group_identity_security_related_information,
-    );
+    )
 }
 
-fn record(message: u64, held: Record) {
+fn record(rt: &impl Print, message: u64, held: Record) -> io::Result<()> {
     if message == DEMAND {
-        demand(held.demand);
-        return;
+        demand(rt, held.demand)?;
+        return Ok(());
     }
     if message == ACCEPT {
-        accept(held.accept);
-        return;
+        accept(rt, held.accept)?;
+        return Ok(());
     }
-    attach_detach(held.attach_detach);
+    attach_detach(rt, held.attach_detach)
 }
 
 // The refusals, as document 01's questions have them.
-fn meaning(refusal: u8) {
+fn meaning(rt: &impl Print, refusal: u8) -> io::Result<()> {
     match refusal {
         1 => text(
+            rt,
             b"the message is not known, there are more than 4,096 octets, or not first <= end <= 8 x octets",
         ),
-        2 => text(b"a field, an identifier or skipped content does not end inside the window"),
-        3 => text(b"the 4-bit type is not the message's own"),
-        4 => text(b"the reserved bit of the location demand is not 0"),
-        5 => text(b"a type 4 length, which counts the 6 bits of its number of entries, is below 6"),
-        6 => text(b"a structure or a group list does not end where its length said"),
-        7 => text(b"the closing M-bit is not 0"),
-        _ => text(b"no refusal of a reading"),
+        2 => text(
+            rt,
+            b"a field, an identifier or skipped content does not end inside the window",
+        ),
+        3 => text(rt, b"the 4-bit type is not the message's own"),
+        4 => text(rt, b"the reserved bit of the location demand is not 0"),
+        5 => text(
+            rt,
+            b"a type 4 length, which counts the 6 bits of its number of entries, is below 6",
+        ),
+        6 => text(
+            rt,
+            b"a structure or a group list does not end where its length said",
+        ),
+        7 => text(rt, b"the closing M-bit is not 0"),
+        _ => text(rt, b"no refusal of a reading"),
     }
 }
 
-fn refused(refusal: u8, place: usize) {
-    field(1, b"refusal", refusal as u64);
-    name(1, b"meaning");
-    meaning(refusal);
-    text(b"\n");
-    name(1, b"place");
-    text(b"bit ");
-    number(place as u64);
-    text(b"\n");
+fn refused(rt: &impl Print, refusal: u8, place: usize) -> io::Result<()> {
+    field(rt, 1, b"refusal", refusal as u64)?;
+    name(rt, 1, b"meaning")?;
+    meaning(rt, refusal)?;
+    text(rt, b"\n")?;
+    name(rt, 1, b"place")?;
+    text(rt, b"bit ")?;
+    number(rt, place as u64)?;
+    text(rt, b"\n")
 }
 
 // The answer of a call.
-pub(crate) fn reading(message: u64, r: Reading) {
+pub(crate) fn reading(rt: &impl Print, message: u64, r: Reading) -> io::Result<()> {
     let v = r.verdict;
     match v {
         Verdict::Accepted => {
-            record(message, r.record);
-            field(1, b"bits consumed", r.consumed as u64);
-            field(1, b"elements skipped", r.skipped as u64);
+            record(rt, message, r.record)?;
+            field(rt, 1, b"bits consumed", r.consumed as u64)?;
+            field(rt, 1, b"elements skipped", r.skipped as u64)
         }
-        Verdict::Refused(n) => refused(n, r.place),
+        Verdict::Refused(n) => refused(rt, n, r.place),
     }
 }
 
-fn message_name(message: u64) {
+fn message_name(rt: &impl Print, message: u64) -> io::Result<()> {
     match message {
-        DEMAND => text(b"demand"),
-        ACCEPT => text(b"accept"),
-        ATTACH_DETACH => text(b"attach"),
+        DEMAND => text(rt, b"demand"),
+        ACCEPT => text(rt, b"accept"),
+        ATTACH_DETACH => text(rt, b"attach"),
         _ => {
-            text(b"message ");
-            number(message);
+            text(rt, b"message ")?;
+            number(rt, message)
         }
     }
 }
 
-fn line_number(n: u64) {
-    text(b"line ");
-    number(n);
-    text(b": ");
+fn line_number(rt: &impl Print, n: u64) -> io::Result<()> {
+    text(rt, b"line ")?;
+    number(rt, n)?;
+    text(rt, b": ")
 }
 
 // `line 1: demand, strict, window 0 to 10`.
-pub(crate) fn heading(n: u64, c: Call) {
-    line_number(n);
-    message_name(c.message);
+pub(crate) fn heading(rt: &impl Print, n: u64, c: Call) -> io::Result<()> {
+    line_number(rt, n)?;
+    message_name(rt, c.message)?;
     if c.wanted == STRICT {
-        text(b", strict");
+        text(rt, b", strict")?;
     } else {
-        text(b", skipping");
+        text(rt, b", skipping")?;
     }
-    text(b", window ");
-    number(c.first as u64);
-    text(b" to ");
-    number(c.end as u64);
-    text(b"\n");
+    text(rt, b", window ")?;
+    number(rt, c.first as u64)?;
+    text(rt, b" to ")?;
+    number(rt, c.end as u64)?;
+    text(rt, b"\n")
 }
 
-fn fault(f: Fault) {
+fn fault(rt: &impl Print, f: Fault) -> io::Result<()> {
     match f {
-        Fault::LineTooLong => text(b"the line is longer than 16383 characters"),
-        Fault::WordsMissing => text(b"fewer than three words: message, reading, octets"),
-        Fault::EndMissing => text(b"a first bit and no end bit"),
-        Fault::WordsExtra => text(b"more than five words"),
-        Fault::MessageUnknown => text(b"the message is not demand, accept, attach or a number"),
-        Fault::ReadingUnknown => text(b"the reading is not strict or skipping"),
-        Fault::DigitsBad => text(b"the octets have a character that is not a hexadecimal digit"),
-        Fault::DigitsOdd => text(b"the octets have an odd number of hexadecimal digits"),
-        Fault::BitUnknown => text(b"the first or end bit is not a decimal number"),
-        Fault::NumberTooLarge => text(b"a number is above 18446744073709551615"),
+        Fault::LineTooLong => text(rt, b"the line is longer than 16383 characters"),
+        Fault::WordsMissing => text(rt, b"fewer than three words: message, reading, octets"),
+        Fault::EndMissing => text(rt, b"a first bit and no end bit"),
+        Fault::WordsExtra => text(rt, b"more than five words"),
+        Fault::MessageUnknown => text(rt, b"the message is not demand, accept, attach or a number"),
+        Fault::ReadingUnknown => text(rt, b"the reading is not strict or skipping"),
+        Fault::DigitsBad => text(
+            rt,
+            b"the octets have a character that is not a hexadecimal digit",
+        ),
+        Fault::DigitsOdd => text(rt, b"the octets have an odd number of hexadecimal digits"),
+        Fault::BitUnknown => text(rt, b"the first or end bit is not a decimal number"),
+        Fault::NumberTooLarge => text(rt, b"a number is above 18446744073709551615"),
     }
 }
 
 // A line that is no call.
-pub(crate) fn unread(n: u64, f: Fault) {
-    line_number(n);
-    text(b"not read: ");
-    fault(f);
-    text(b"\n");
+pub(crate) fn unread(rt: &impl Print, n: u64, f: Fault) -> io::Result<()> {
+    line_number(rt, n)?;
+    text(rt, b"not read: ")?;
+    fault(rt, f)?;
+    text(rt, b"\n")
 }

@@ -1,7 +1,6 @@
 // The words of a line, and what they spell.
 ghost use Rattle.std.specs.Prelude.{◌≡◌, ◌*◌, ◌≤◌, length, take};
-ghost use Rattle.io.specs.Counts.{IsPrefixLen};
-ghost use Rattle.mm_read.specs.Words.{kind_of, run_of, unblanked, first_word, after_word, same, digit_of, all_digits, octet_of, octets, decimal_of};
+ghost use Rattle.mm_read.specs.Words.{IsPrefixLen, kind_of, run_of, unblanked, first_word, after_word, same, digit_of, all_digits, octet_of, octets, decimal_of};
 
 const SPACE: u8 = 32;
 

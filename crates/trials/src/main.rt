@@ -9,11 +9,13 @@ mod skipping;
 mod whole;
 mod windows;
 
-fn main() {
+use std::io;
+
+fn main(rt: HostRuntime) -> io::Result<()> {
     let mut octets = [0u8; 512];
-    lists::trials(&mut octets);
-    generics::trials(&mut octets);
-    whole::trials(&mut octets);
-    skipping::trials(&mut octets);
-    windows::trials(&mut octets);
+    lists::trials(&rt, &mut octets)?;
+    generics::trials(&rt, &mut octets)?;
+    whole::trials(&rt, &mut octets)?;
+    skipping::trials(&rt, &mut octets)?;
+    windows::trials(&rt, &mut octets)
 }

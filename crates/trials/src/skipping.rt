@@ -6,12 +6,13 @@ use crate::build::{
 use crate::show::both;
 use bits::bitbuffer::Cursor;
 use messages::{ACCEPT, ATTACH_DETACH, DEMAND};
+use std::io;
 
 const ONES: u64 = 0xFFFF_FFFF_FFFF_FFFF;
 
 // Before the first listed element, between and behind the last: 13, 6, 7 and 14 are unlisted, 4 in all.
 // 15 + 19 + 19 + 16 + 18 + 2,063 + 19 + 17 + 21 + 1 = 2,208.
-fn demand_around(octets: &mut Octets) {
+fn demand_around(rt: &impl Print, octets: &mut Octets) -> io::Result<()> {
     let c = demand(octets, start(0));
     let c = type3(octets, c, 13, 3, 7);
     let c = location(octets, c, 3, 3, 0, 1, 0);
@@ -22,12 +23,12 @@ fn demand_around(octets: &mut Octets) {
     let c = type3(octets, c, 15, 1, 1);
     let c = type3(octets, c, 14, 5, 31);
     let c = closing_mbit(octets, c);
-    both(b"unlisted around, demand", octets, c.at, DEMAND);
+    both(rt, b"unlisted around, demand", octets, c.at, DEMAND)
 }
 
 // 8, 7, 9, 0 and 11 are unlisted in an accept, 5 in all.
 // 13 + 19 + 24 + 26 + 19 + 80 + 18 + 17 + 18 + 2,063 + 1 = 2,298.
-fn accept_around(octets: &mut Octets) {
+fn accept_around(rt: &impl Print, octets: &mut Octets) -> io::Result<()> {
     let c = accept(octets, start(0));
     let c = type3(octets, c, 8, 3, 7);
     let c = type4(octets, c, 2, 8, 1, 2, 3);
@@ -39,7 +40,7 @@ fn accept_around(octets: &mut Octets) {
     let c = type3(octets, c, 0, 2, 3);
     let c = type3(octets, c, 11, 2047, ONES);
     let c = closing_mbit(octets, c);
-    both(b"unlisted around, accept", octets, c.at, ACCEPT);
+    both(rt, b"unlisted around, accept", octets, c.at, ACCEPT)
 }
 
 // One downlink of 8 + 24 = 32 bits: 16 + 6 + 32 = 54.
@@ -51,7 +52,7 @@ fn one_downlink(octets: &mut Octets, c: Cursor) -> Cursor {
 
 // 3, 2, 1 and 13 are unlisted in an attach/detach, 4 in all.
 // 8 + 19 + 17 + 2,063 + 54 + 20 + 22 + 16 + 1 = 2,220.
-fn attach_detach_around(octets: &mut Octets) {
+fn attach_detach_around(rt: &impl Print, octets: &mut Octets) -> io::Result<()> {
     let c = attach_detach(octets, start(0));
     let c = type3(octets, c, 3, 3, 7);
     let c = type3(octets, c, 15, 1, 1);
@@ -62,11 +63,12 @@ fn attach_detach_around(octets: &mut Octets) {
     let c = type3(octets, c, 13, 0, 0);
     let c = closing_mbit(octets, c);
     both(
+        rt,
         b"unlisted around, attach/detach",
         octets,
         c.at,
         ATTACH_DETACH,
-    );
+    )
 }
 
 // Elements 13 of 3 bits: 19 bits each.
@@ -80,7 +82,14 @@ fn unlisted(octets: &mut Octets, c: Cursor, count: u8) -> Cursor {
 
 // Before element 4 of 2 bits, between it and element 15 of 1 bit, and behind that: 15 + 18 + 17 + 1 + 19 × count
 // = 51 + 19 × count.
-fn row(octets: &mut Octets, name: &[u8], before: u8, between: u8, behind: u8) {
+fn row(
+    rt: &impl Print,
+    octets: &mut Octets,
+    name: &[u8],
+    before: u8,
+    between: u8,
+    behind: u8,
+) -> io::Result<()> {
     let c = demand(octets, start(0));
     let c = unlisted(octets, c, before);
     let c = type3(octets, c, 4, 2, 1);
@@ -88,101 +97,117 @@ fn row(octets: &mut Octets, name: &[u8], before: u8, between: u8, behind: u8) {
     let c = type3(octets, c, 15, 1, 1);
     let c = unlisted(octets, c, behind);
     let c = closing_mbit(octets, c);
-    both(name, octets, c.at, DEMAND);
+    both(rt, name, octets, c.at, DEMAND)
 }
 
-fn rows(octets: &mut Octets) {
-    row(octets, b"3 unlisted between", 0, 3, 0); // 108
-    row(octets, b"16 unlisted between", 0, 16, 0); // 355
-    row(octets, b"100 unlisted between", 0, 100, 0); // 1,951
-    row(octets, b"100 unlisted before", 100, 0, 0);
-    row(octets, b"100 unlisted behind", 0, 0, 100);
-    row(octets, b"3, 16 and 100 unlisted", 3, 16, 100); // 51 + 19 × 119 = 2,312
+fn rows(rt: &impl Print, octets: &mut Octets) -> io::Result<()> {
+    row(rt, octets, b"3 unlisted between", 0, 3, 0)?; // 108
+    row(rt, octets, b"16 unlisted between", 0, 16, 0)?; // 355
+    row(rt, octets, b"100 unlisted between", 0, 100, 0)?; // 1,951
+    row(rt, octets, b"100 unlisted before", 100, 0, 0)?;
+    row(rt, octets, b"100 unlisted behind", 0, 0, 100)?;
+    row(rt, octets, b"3, 16 and 100 unlisted", 3, 16, 100)?; // 51 + 19 × 119 = 2,312
+    Ok(())
 }
 
 // The skipping reading gives 2 where the window ends in the content, in the length or before the next M-bit, the strict one
 // 7, having no slot for 13. In the identifier both give 2, as each slot looks at it.
-fn leaving(octets: &mut Octets) {
+fn leaving(rt: &impl Print, octets: &mut Octets) -> io::Result<()> {
     let c = demand(octets, start(0));
     let c = put(octets, c, 1, 1); // M-bit
     let to_length = put(octets, c, 13, 4); // identifier
     let to_content = put(octets, to_length, 3, 11); // length
     let c = put(octets, to_content, 7, 3); // content
-    both(b"unlisted, no M-bit behind", octets, c.at, DEMAND);
-    both(b"unlisted, content cut off", octets, one_less(c.at), DEMAND);
+    both(rt, b"unlisted, no M-bit behind", octets, c.at, DEMAND)?;
     both(
+        rt,
+        b"unlisted, content cut off",
+        octets,
+        one_less(c.at),
+        DEMAND,
+    )?;
+    both(
+        rt,
         b"unlisted, length cut off",
         octets,
         one_less(to_content.at),
         DEMAND,
-    );
+    )?;
     both(
+        rt,
         b"unlisted, identifier cut off",
         octets,
         one_less(to_length.at),
         DEMAND,
-    );
+    )
 }
 
 // Behind element 15 there is no slot left: an M-bit of 1 is 7 to the strict reading; the skipping one needs the
 // identifier, of which 0 and 3 bits are inside the window.
-fn behind_last(octets: &mut Octets) {
+fn behind_last(rt: &impl Print, octets: &mut Octets) -> io::Result<()> {
     let c = demand(octets, start(0));
     let c = type3(octets, c, 15, 1, 1);
     let c = put(octets, c, 1, 1);
-    both(b"M-bit 1 behind the last slot", octets, c.at, DEMAND);
+    both(rt, b"M-bit 1 behind the last slot", octets, c.at, DEMAND)?;
     let c = put(octets, c, 6, 3);
     both(
+        rt,
         b"M-bit 1 and 3 bits behind the last slot",
         octets,
         c.at,
         DEMAND,
-    );
+    )
 }
 
 // Listed identifiers repeated or out of order: 7 in both readings.
-fn order(octets: &mut Octets, name: &[u8], first: u64, second: u64) {
+fn order(
+    rt: &impl Print,
+    octets: &mut Octets,
+    name: &[u8],
+    first: u64,
+    second: u64,
+) -> io::Result<()> {
     let c = demand(octets, start(0));
     let c = type3(octets, c, first, 2, 1);
     let c = type3(octets, c, second, 2, 2);
     let c = closing_mbit(octets, c);
-    both(name, octets, c.at, DEMAND);
+    both(rt, name, octets, c.at, DEMAND)
 }
 
 // The same with an unlisted element between.
-fn parted(octets: &mut Octets) {
+fn parted(rt: &impl Print, octets: &mut Octets) -> io::Result<()> {
     let c = demand(octets, start(0));
     let c = type3(octets, c, 4, 2, 1);
     let c = type3(octets, c, 13, 3, 7);
     let c = type3(octets, c, 4, 2, 2);
     let c = closing_mbit(octets, c);
-    both(b"4, 13 and 4", octets, c.at, DEMAND);
+    both(rt, b"4, 13 and 4", octets, c.at, DEMAND)
 }
 
 // In the place of the list stands element 9, of 2 bits: 3 + 18 + 1 = 22. Nested elements are never skipped: 7.
-fn nested(octets: &mut Octets) {
+fn nested(rt: &impl Print, octets: &mut Octets) -> io::Result<()> {
     let c = demand(octets, start(0));
     let c = location(octets, c, 3, 22, 0, 1, 1);
     let c = type3(octets, c, 9, 2, 3);
     let c = closing_mbit(octets, c);
     let c = closing_mbit(octets, c);
-    both(b"unlisted in the location demand", octets, c.at, DEMAND);
+    both(rt, b"unlisted in the location demand", octets, c.at, DEMAND)
 }
 
-pub(crate) fn trials(octets: &mut Octets) {
-    demand_around(octets);
-    accept_around(octets);
-    attach_detach_around(octets);
-    rows(octets);
-    leaving(octets);
-    behind_last(octets);
-    refused_trials(octets);
+pub(crate) fn trials(rt: &impl Print, octets: &mut Octets) -> io::Result<()> {
+    demand_around(rt, octets)?;
+    accept_around(rt, octets)?;
+    attach_detach_around(rt, octets)?;
+    rows(rt, octets)?;
+    leaving(rt, octets)?;
+    behind_last(rt, octets)?;
+    refused_trials(rt, octets)
 }
 
-fn refused_trials(octets: &mut Octets) {
-    order(octets, b"4 twice", 4, 4);
-    order(octets, b"15 twice", 15, 15);
-    order(octets, b"9 before 4", 9, 4);
-    parted(octets);
-    nested(octets);
+fn refused_trials(rt: &impl Print, octets: &mut Octets) -> io::Result<()> {
+    order(rt, octets, b"4 twice", 4, 4)?;
+    order(rt, octets, b"15 twice", 15, 15)?;
+    order(rt, octets, b"9 before 4", 9, 4)?;
+    parted(rt, octets)?;
+    nested(rt, octets)
 }

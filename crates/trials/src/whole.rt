@@ -6,6 +6,7 @@ use crate::build::{
 use crate::show::strict;
 use bits::bitbuffer::Cursor;
 use messages::{ACCEPT, DEMAND};
+use std::io;
 
 // A type 2 element.
 fn type2(octets: &mut Octets, c: Cursor, value: u64, width: usize) -> Cursor {
@@ -48,7 +49,7 @@ fn location_demand(octets: &mut Octets, c: Cursor) -> Cursor {
 
 // The generic elements have 16 + 2, 16 + 3, 16 + 4 and 16 + 8 bits, 81 in all:
 // 20 + 95 + 125 + 81 + 1 = 322.
-fn whole_demand(octets: &mut Octets) {
+fn whole_demand(rt: &impl Print, octets: &mut Octets) -> io::Result<()> {
     let c = demand_fields(octets, start(0));
     let c = demand_type2(octets, c);
     let c = location_demand(octets, c);
@@ -57,7 +58,7 @@ fn whole_demand(octets: &mut Octets) {
     let c = type3(octets, c, 11, 4, 3);
     let c = type3(octets, c, 15, 8, 0xC4);
     let c = closing_mbit(octets, c);
-    strict(b"whole demand", octets, c.at, DEMAND);
+    strict(rt, b"whole demand", octets, c.at, DEMAND)
 }
 
 // 4 + 3 + 1 = 8 bits.
@@ -102,16 +103,16 @@ fn accept_elements(octets: &mut Octets, c: Cursor) -> Cursor {
 }
 
 // 8 + 89 + 237 + 1 = 335. StayAlive, mode 0, drops frame and multiframe.
-fn whole_accept(octets: &mut Octets, name: &[u8], mode: u64) {
+fn whole_accept(rt: &impl Print, octets: &mut Octets, name: &[u8], mode: u64) -> io::Result<()> {
     let c = accept_fields(octets, start(0));
     let c = accept_type2(octets, c, mode);
     let c = accept_elements(octets, c);
     let c = closing_mbit(octets, c);
-    strict(name, octets, c.at, ACCEPT);
+    strict(rt, name, octets, c.at, ACCEPT)
 }
 
-pub(crate) fn trials(octets: &mut Octets) {
-    whole_demand(octets);
-    whole_accept(octets, b"whole accept", 4);
-    whole_accept(octets, b"whole accept, StayAlive", 0);
+pub(crate) fn trials(rt: &impl Print, octets: &mut Octets) -> io::Result<()> {
+    whole_demand(rt, octets)?;
+    whole_accept(rt, octets, b"whole accept", 4)?;
+    whole_accept(rt, octets, b"whole accept, StayAlive", 0)
 }

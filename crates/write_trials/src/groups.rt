@@ -10,92 +10,111 @@ use crate::values::{
 use elements::group_identity_downlink::{GroupIdentityDownlink, OptionalDownlinks};
 use elements::group_identity_uplink::{GroupIdentityUplink, OptionalUplinks};
 use messages::{ACCEPT, ATTACH_DETACH};
+use std::io;
 
-pub(crate) fn uplinks_trial(name: &[u8], list: OptionalUplinks) {
-    text(b"uplink, ");
-    demand_named(name, demand_list(list));
+pub(crate) fn uplinks_trial(rt: &impl Print, name: &[u8], list: OptionalUplinks) -> io::Result<()> {
+    text(rt, b"uplink, ")?;
+    demand_named(rt, name, demand_list(list))
 }
 
-pub(crate) fn uplink_trial(name: &[u8], g: GroupIdentityUplink) {
-    uplinks_trial(name, uplinks(1, g));
+pub(crate) fn uplink_trial(rt: &impl Print, name: &[u8], g: GroupIdentityUplink) -> io::Result<()> {
+    uplinks_trial(rt, name, uplinks(1, g))
 }
 
-pub(crate) fn downlinks_trial(name: &[u8], list: OptionalDownlinks) {
-    text(b"downlink, ");
-    text(name);
+pub(crate) fn downlinks_trial(
+    rt: &impl Print,
+    name: &[u8],
+    list: OptionalDownlinks,
+) -> io::Result<()> {
+    text(rt, b"downlink, ")?;
+    text(rt, name)?;
     whole(
+        rt,
         ATTACH_DETACH,
         attach_detach_record(attach_detach_list(list)),
-    );
-    text(b"downlink, ");
-    text(name);
-    text(b", nested");
-    whole(ACCEPT, accept_record(accept_list(list)));
+    )?;
+    text(rt, b"downlink, ")?;
+    text(rt, name)?;
+    text(rt, b", nested")?;
+    whole(rt, ACCEPT, accept_record(accept_list(list)))
 }
 
-pub(crate) fn downlink_trial(name: &[u8], g: GroupIdentityDownlink) {
-    downlinks_trial(name, downlinks(1, g));
+pub(crate) fn downlink_trial(
+    rt: &impl Print,
+    name: &[u8],
+    g: GroupIdentityDownlink,
+) -> io::Result<()> {
+    downlinks_trial(rt, name, downlinks(1, g))
 }
 
 // Each number one over its width.
-pub(crate) fn uplink_widths() {
-    uplink_trial(b"class of usage 8", uplink(octet(8), NO_OCTET, gssi(1)));
-    uplink_trial(b"detachment 4", uplink(NO_OCTET, octet(4), gssi(1)));
-    uplink_trial(b"GSSI 2^24", uplink_at(gssi(OVER_ADDRESS)));
+pub(crate) fn uplink_widths(rt: &impl Print) -> io::Result<()> {
+    uplink_trial(rt, b"class of usage 8", uplink(octet(8), NO_OCTET, gssi(1)))?;
+    uplink_trial(rt, b"detachment 4", uplink(NO_OCTET, octet(4), gssi(1)))?;
+    uplink_trial(rt, b"GSSI 2^24", uplink_at(gssi(OVER_ADDRESS)))?;
     let mut a = address(true, true, false);
     a.address_extension = OVER_ADDRESS;
-    uplink_trial(b"extension 2^24", uplink_at(a));
+    uplink_trial(rt, b"extension 2^24", uplink_at(a))?;
     let mut a = address(false, false, true);
     a.vgssi = OVER_ADDRESS;
-    uplink_trial(b"VGSSI 2^24", uplink_at(a));
+    uplink_trial(rt, b"VGSSI 2^24", uplink_at(a))
 }
 
-pub(crate) fn downlink_widths() {
-    downlink_trial(b"lifetime 4", downlink(attachment(4, 0), NO_OCTET, gssi(1)));
+pub(crate) fn downlink_widths(rt: &impl Print) -> io::Result<()> {
     downlink_trial(
+        rt,
+        b"lifetime 4",
+        downlink(attachment(4, 0), NO_OCTET, gssi(1)),
+    )?;
+    downlink_trial(
+        rt,
         b"class of usage 8",
         downlink(attachment(0, 8), NO_OCTET, gssi(1)),
-    );
-    downlink_trial(b"detachment 4", downlink(DETACHED, octet(4), gssi(1)));
-    downlink_trial(b"GSSI 2^24", downlink_at(gssi(OVER_ADDRESS)));
+    )?;
+    downlink_trial(rt, b"detachment 4", downlink(DETACHED, octet(4), gssi(1)))?;
+    downlink_trial(rt, b"GSSI 2^24", downlink_at(gssi(OVER_ADDRESS)))
 }
 
 // Attached, detached, neither and both.
-fn attachments() {
-    uplink_trial(b"detached", uplink(NO_OCTET, octet(3), gssi(1)));
+fn attachments(rt: &impl Print) -> io::Result<()> {
+    uplink_trial(rt, b"detached", uplink(NO_OCTET, octet(3), gssi(1)))?;
     uplink_trial(
+        rt,
         b"neither attached nor detached",
         uplink(NO_OCTET, NO_OCTET, gssi(1)),
-    );
+    )?;
     uplink_trial(
+        rt,
         b"attached and detached",
         uplink(octet(4), octet(0), gssi(1)),
-    );
-    downlink_trial(b"detached", downlink(DETACHED, octet(3), gssi(1)));
+    )?;
+    downlink_trial(rt, b"detached", downlink(DETACHED, octet(3), gssi(1)))?;
     downlink_trial(
+        rt,
         b"neither attached nor detached",
         downlink(DETACHED, NO_OCTET, gssi(1)),
-    );
+    )?;
     downlink_trial(
+        rt,
         b"attached and detached",
         downlink(attachment(3, 4), octet(0), gssi(1)),
-    );
+    )
 }
 
-fn form(name: &[u8], gssi: bool, extension: bool, vgssi: bool) {
+fn form(rt: &impl Print, name: &[u8], gssi: bool, extension: bool, vgssi: bool) -> io::Result<()> {
     let a = address(gssi, extension, vgssi);
-    uplink_trial(name, uplink_at(a));
-    downlink_trial(name, downlink_at(a));
+    uplink_trial(rt, name, uplink_at(a))?;
+    downlink_trial(rt, name, downlink_at(a))
 }
 
-pub(crate) fn trials() {
-    attachments();
-    form(b"no address", false, false, false);
-    form(b"GSSI", true, false, false);
-    form(b"extension", false, true, false);
-    form(b"GSSI and extension", true, true, false);
-    form(b"VGSSI", false, false, true);
-    form(b"GSSI and VGSSI", true, false, true);
-    form(b"extension and VGSSI", false, true, true);
-    form(b"GSSI and extension and VGSSI", true, true, true);
+pub(crate) fn trials(rt: &impl Print) -> io::Result<()> {
+    attachments(rt)?;
+    form(rt, b"no address", false, false, false)?;
+    form(rt, b"GSSI", true, false, false)?;
+    form(rt, b"extension", false, true, false)?;
+    form(rt, b"GSSI and extension", true, true, false)?;
+    form(rt, b"VGSSI", false, false, true)?;
+    form(rt, b"GSSI and VGSSI", true, false, true)?;
+    form(rt, b"extension and VGSSI", false, true, true)?;
+    form(rt, b"GSSI and extension and VGSSI", true, true, true)
 }

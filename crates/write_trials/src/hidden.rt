@@ -19,6 +19,7 @@ use messages::d_attach_detach_group_identity::DAttachDetachGroupIdentity;
 use messages::d_location_update_accept::DLocationUpdateAccept;
 use messages::u_location_update_demand::ULocationUpdateDemand;
 use messages::{ACCEPT, ATTACH_DETACH, DEMAND, Record};
+use std::io;
 
 const OCTET: OptionalU8 = OptionalU8 {
     present: false,
@@ -156,39 +157,54 @@ fn wrong_records() -> Record {
     }
 }
 
-fn absent() {
+fn absent(rt: &impl Print) -> io::Result<()> {
     let mut r = wrong_records();
     r.demand = hidden_demand();
-    text(b"demand, values in all that is absent");
-    whole(DEMAND, r);
+    text(rt, b"demand, values in all that is absent")?;
+    whole(rt, DEMAND, r)?;
     let mut r = wrong_records();
     r.accept = hidden_accept();
-    text(b"accept, values in all that is absent");
-    whole(ACCEPT, r);
+    text(rt, b"accept, values in all that is absent")?;
+    whole(rt, ACCEPT, r)?;
     let mut r = wrong_records();
     r.attach_detach = hidden_attach_detach();
-    text(b"attach/detach, values in all that is absent");
-    whole(ATTACH_DETACH, r);
+    text(rt, b"attach/detach, values in all that is absent")?;
+    whole(rt, ATTACH_DETACH, r)
 }
 
-fn lists() {
-    demand_trial(b"values in an absent list", demand_list(hidden_uplinks()));
-    accept_trial(b"values in an absent list", accept_list(hidden_downlinks()));
+fn lists(rt: &impl Print) -> io::Result<()> {
+    demand_trial(
+        rt,
+        b"values in an absent list",
+        demand_list(hidden_uplinks()),
+    )?;
+    accept_trial(
+        rt,
+        b"values in an absent list",
+        accept_list(hidden_downlinks()),
+    )?;
     let behind = downlinks(0, wrong_downlink());
     demand_trial(
+        rt,
         b"values behind an empty list",
         demand_list(uplinks(0, wrong_uplink())),
-    );
-    accept_trial(b"values behind an empty list", accept_list(behind));
-    attach_detach_trial(b"values behind an empty list", attach_detach_list(behind));
+    )?;
+    accept_trial(rt, b"values behind an empty list", accept_list(behind))?;
+    attach_detach_trial(
+        rt,
+        b"values behind an empty list",
+        attach_detach_list(behind),
+    )?;
     uplinks_trial(
+        rt,
         b"values behind one group",
         uplinks_then(1, uplink_at(gssi(1)), wrong_uplink()),
-    );
+    )?;
     downlinks_trial(
+        rt,
         b"values behind one group",
         downlinks_then(1, downlink_at(gssi(1)), wrong_downlink()),
-    );
+    )
 }
 
 // An address with a GSSI of 1.
@@ -199,27 +215,31 @@ fn gssi_alone() -> GroupAddress {
     a
 }
 
-fn groups() {
+fn groups(rt: &impl Print) -> io::Result<()> {
     uplink_trial(
+        rt,
         b"values in what is absent",
         uplink(octet(4), OCTET, gssi_alone()),
-    );
+    )?;
     uplink_trial(
+        rt,
         b"values in what is absent, detached",
         uplink(OCTET, octet(3), gssi_alone()),
-    );
+    )?;
     downlink_trial(
+        rt,
         b"values in what is absent",
         downlink(attachment(3, 4), OCTET, gssi_alone()),
-    );
+    )?;
     accept_trial(
+        rt,
         b"StayAlive, values in what is absent",
         accept_saving(0, OCTET, OCTET),
-    );
+    )
 }
 
-pub(crate) fn trials() {
-    absent();
-    lists();
-    groups();
+pub(crate) fn trials(rt: &impl Print) -> io::Result<()> {
+    absent(rt)?;
+    lists(rt)?;
+    groups(rt)
 }

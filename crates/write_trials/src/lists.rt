@@ -5,6 +5,7 @@ use crate::records::{
 use crate::values::{address, downlink_at, downlinks, gssi, uplink_at};
 use elements::group_identity_downlink::{GroupIdentityDownlink, OptionalDownlinks};
 use elements::group_identity_uplink::{GroupIdentityUplink, OptionalUplinks};
+use std::io;
 
 // A group of 30 bits, or of 54 with an extension.
 fn uplink_of(gssi: u32, extension: bool) -> GroupIdentityUplink {
@@ -65,26 +66,40 @@ pub(crate) fn downlinks_of_80(count: usize) -> OptionalDownlinks {
     downlinks(count, downlink_at(address(true, true, true)))
 }
 
-pub(crate) fn trials() {
-    demand_named(b"63 uplinks of 30 bits", demand_list(uplinks_of(63, false)));
-    demand_named(b"37 uplinks of 54 bits", demand_list(uplinks_of(37, true)));
+pub(crate) fn trials(rt: &impl Print) -> io::Result<()> {
     demand_named(
+        rt,
+        b"63 uplinks of 30 bits",
+        demand_list(uplinks_of(63, false)),
+    )?;
+    demand_named(
+        rt,
+        b"37 uplinks of 54 bits",
+        demand_list(uplinks_of(37, true)),
+    )?;
+    demand_named(
+        rt,
         b"37 uplinks of 54 bits and one of 30",
         demand_list(mixed_uplinks()),
-    );
-    demand_named(b"38 uplinks of 54 bits", demand_list(uplinks_of(38, true)));
-    downlink_trials();
+    )?;
+    demand_named(
+        rt,
+        b"38 uplinks of 54 bits",
+        demand_list(uplinks_of(38, true)),
+    )?;
+    downlink_trials(rt)
 }
 
-fn downlink_trials() {
+fn downlink_trials(rt: &impl Print) -> io::Result<()> {
     let fits = downlinks_of_80(25);
     let too_long = downlinks_of_80(26);
-    accept_trial(b"25 downlinks of 80 bits", accept_list(fits));
-    accept_trial(b"26 downlinks of 80 bits", accept_list(too_long));
-    attach_detach_trial(b"25 downlinks of 80 bits", attach_detach_list(fits));
-    attach_detach_trial(b"26 downlinks of 80 bits", attach_detach_list(too_long));
+    accept_trial(rt, b"25 downlinks of 80 bits", accept_list(fits))?;
+    accept_trial(rt, b"26 downlinks of 80 bits", accept_list(too_long))?;
+    attach_detach_trial(rt, b"25 downlinks of 80 bits", attach_detach_list(fits))?;
+    attach_detach_trial(rt, b"26 downlinks of 80 bits", attach_detach_list(too_long))?;
     attach_detach_trial(
+        rt,
         b"63 downlinks of 32 bits",
         attach_detach_list(most_downlinks()),
-    );
+    )
 }

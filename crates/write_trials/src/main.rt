@@ -14,17 +14,19 @@ mod show;
 mod values;
 mod windows;
 
-fn main() {
-    plain::trials();
-    numbers::widths();
-    numbers::ciphering();
-    groups::trials();
-    numbers::saving();
-    numbers::type4();
-    lists::trials();
-    windows::lengths();
-    faults::trials();
-    windows::places();
-    beyond::trials();
-    hidden::trials();
+use std::io;
+
+fn main(rt: HostRuntime) -> io::Result<()> {
+    plain::trials(&rt)?;
+    numbers::widths(&rt)?;
+    numbers::ciphering(&rt)?;
+    groups::trials(&rt)?;
+    numbers::saving(&rt)?;
+    numbers::type4(&rt)?;
+    lists::trials(&rt)?;
+    windows::lengths(&rt)?;
+    faults::trials(&rt)?;
+    windows::places(&rt)?;
+    beyond::trials(&rt)?;
+    hidden::trials(&rt)
 }

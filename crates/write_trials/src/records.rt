@@ -15,6 +15,7 @@ use messages::d_attach_detach_group_identity::{DAttachDetachGroupIdentity, no_at
 use messages::d_location_update_accept::{DLocationUpdateAccept, no_accept};
 use messages::u_location_update_demand::{ULocationUpdateDemand, no_demand};
 use messages::{ACCEPT, ATTACH_DETACH, DEMAND, Record};
+use std::io;
 
 pub(crate) fn demand() -> ULocationUpdateDemand {
     let mut d = no_demand();
@@ -60,26 +61,42 @@ pub(crate) fn attach_detach_record(d: DAttachDetachGroupIdentity) -> Record {
 }
 
 // A demand under its whole name.
-pub(crate) fn demand_named(name: &[u8], d: ULocationUpdateDemand) {
-    text(name);
-    whole(DEMAND, demand_record(d));
+pub(crate) fn demand_named(
+    rt: &impl Print,
+    name: &[u8],
+    d: ULocationUpdateDemand,
+) -> io::Result<()> {
+    text(rt, name)?;
+    whole(rt, DEMAND, demand_record(d))
 }
 
-pub(crate) fn demand_trial(name: &[u8], d: ULocationUpdateDemand) {
-    text(b"demand, ");
-    demand_named(name, d);
+pub(crate) fn demand_trial(
+    rt: &impl Print,
+    name: &[u8],
+    d: ULocationUpdateDemand,
+) -> io::Result<()> {
+    text(rt, b"demand, ")?;
+    demand_named(rt, name, d)
 }
 
-pub(crate) fn accept_trial(name: &[u8], a: DLocationUpdateAccept) {
-    text(b"accept, ");
-    text(name);
-    whole(ACCEPT, accept_record(a));
+pub(crate) fn accept_trial(
+    rt: &impl Print,
+    name: &[u8],
+    a: DLocationUpdateAccept,
+) -> io::Result<()> {
+    text(rt, b"accept, ")?;
+    text(rt, name)?;
+    whole(rt, ACCEPT, accept_record(a))
 }
 
-pub(crate) fn attach_detach_trial(name: &[u8], d: DAttachDetachGroupIdentity) {
-    text(b"attach/detach, ");
-    text(name);
-    whole(ATTACH_DETACH, attach_detach_record(d));
+pub(crate) fn attach_detach_trial(
+    rt: &impl Print,
+    name: &[u8],
+    d: DAttachDetachGroupIdentity,
+) -> io::Result<()> {
+    text(rt, b"attach/detach, ")?;
+    text(rt, name)?;
+    whole(rt, ATTACH_DETACH, attach_detach_record(d))
 }
 
 pub(crate) fn ciphered(control: u8, parameters: OptionalU64) -> ULocationUpdateDemand {

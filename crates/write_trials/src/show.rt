@@ -1,14 +1,14 @@
 // The line of a trial: its name, what was written or the refusal's number, and whether the other octets are kept.
-use libc::STDOUT_FILENO;
 use message_writers::write;
 use messages::{Record, Verdict};
+use std::io;
 
-pub(crate) fn text(words: &[u8]) {
-    io::write_all(STDOUT_FILENO, words);
+pub(crate) fn text(rt: &impl Print, words: &[u8]) -> io::Result<()> {
+    rt.write_all(words)
 }
 
-pub(crate) fn decimal(n: u64) {
-    io::print_decimal(STDOUT_FILENO, n);
+pub(crate) fn decimal(rt: &impl Print, n: u64) -> io::Result<()> {
+    rt.print(n)
 }
 
 // The octet so far behind a place; 0 behind the end.
@@ -21,11 +21,13 @@ fn octet_at(octets: &[u8], from: usize, i: usize) -> u8 {
     0
 }
 
-fn hex(octets: &[u8], from: usize, count: usize) {
+fn hex(rt: &impl Print, octets: &[u8], from: usize, count: usize) -> io::Result<()> {
     for i in 0..count {
-        text(b" ");
-        io::print_hex(STDOUT_FILENO, octet_at(octets, from, i) as u64, 2);
+        text(rt, b" ")?;
+        let octet = octet_at(octets, from, i);
+        print!(rt; "{octet:02x}")?;
     }
+    Ok(())
 }
 
 fn is_outside(i: usize, from: usize, to: usize) -> bool {
@@ -47,49 +49,62 @@ fn is_kept(octets: &[u8], from: usize, to: usize) -> bool {
     true
 }
 
-fn end_line(kept: bool) {
+fn end_line(rt: &impl Print, kept: bool) -> io::Result<()> {
     if kept {
-        text(b" | kept\n");
-        return;
+        text(rt, b" | kept\n")?;
+        return Ok(());
     }
-    text(b" | CHANGED\n");
+    text(rt, b" | CHANGED\n")
 }
 
 // The octets from that of the first bit to that of the last one written, and whether the others are kept.
-fn written(octets: &[u8], first: usize, bits: usize) {
+fn written(rt: &impl Print, octets: &[u8], first: usize, bits: usize) -> io::Result<()> {
     let from = first / 8;
     let count = bits / 8 + (first % 8 + bits % 8 + 7) / 8;
-    decimal(bits as u64);
-    text(b" bits:");
-    hex(octets, from, count);
-    end_line(is_kept(octets, from, from + count));
+    decimal(rt, bits as u64)?;
+    text(rt, b" bits:")?;
+    hex(rt, octets, from, count)?;
+    end_line(rt, is_kept(octets, from, from + count))
 }
 
 // Whether all octets are kept.
-fn refused(octets: &[u8], number: u8) {
-    text(b"refused ");
-    decimal(number as u64);
-    end_line(is_kept(octets, 0, 0));
+fn refused(rt: &impl Print, octets: &[u8], number: u8) -> io::Result<()> {
+    text(rt, b"refused ")?;
+    decimal(rt, number as u64)?;
+    end_line(rt, is_kept(octets, 0, 0))
 }
 
 // One writing to octets of ones, behind the trial's name.
-pub(crate) fn line(octets: &mut [u8], first: usize, end: usize, message: u64, held: Record) {
+pub(crate) fn line(
+    rt: &impl Print,
+    octets: &mut [u8],
+    first: usize,
+    end: usize,
+    message: u64,
+    held: Record,
+) -> io::Result<()> {
     let w = write(octets, first, end, message, held);
     let v = w.verdict;
-    text(b" | ");
+    text(rt, b" | ")?;
     match v {
-        Verdict::Accepted => written(octets, first, w.written),
-        Verdict::Refused(n) => refused(octets, n),
+        Verdict::Accepted => written(rt, octets, first, w.written),
+        Verdict::Refused(n) => refused(rt, octets, n),
     }
 }
 
 // The same in 512 octets.
-pub(crate) fn window(first: usize, end: usize, message: u64, held: Record) {
+pub(crate) fn window(
+    rt: &impl Print,
+    first: usize,
+    end: usize,
+    message: u64,
+    held: Record,
+) -> io::Result<()> {
     let mut octets = [0xFFu8; 512];
-    line(&mut octets, first, end, message, held);
+    line(rt, &mut octets, first, end, message, held)
 }
 
 // The same in all of them.
-pub(crate) fn whole(message: u64, held: Record) {
-    window(0, 4096, message, held);
+pub(crate) fn whole(rt: &impl Print, message: u64, held: Record) -> io::Result<()> {
+    window(rt, 0, 4096, message, held)
 }

@@ -1,0 +1,17 @@
+use Rattle.std.proofs.Common.{sym, ◌∙◌}
+use Rattle.mm_read.specs.Asking.{reading_of}
+use Rattle.mm_read.proofs.call.reading_of.Goals as goal
+
+pub returns-then-is_same : goal.returns-then-is_same
+unfolding reading_of
+returns-then-is_same c = rw (sym c.is_same.ensures ∙ c.if-is_same.true)
+
+pub returns-then-is_same-2 : goal.returns-then-is_same-2
+unfolding reading_of
+returns-then-is_same-2 c =
+    rw (sym c.is_same.ensures ∙ c.if-is_same.false, sym c.is_same-2.ensures ∙ c.if-is_same-2.true)
+
+pub returns : goal.returns
+unfolding reading_of
+returns c =
+    rw (sym c.is_same.ensures ∙ c.if-is_same.false, sym c.is_same-2.ensures ∙ c.if-is_same-2.false)
