@@ -558,7 +558,8 @@ fn skip_unlisted(c: Cursor, octets: &[u8], table: Table) -> Skipped
         let OptionalU8Read::Read(id, c1) = l else {
             return Skipped::Refused(l.refusal());
         };
-        if !id.present {
+        let ended = !id.present;
+        if ended {
             return Skipped::Count(n, place);
         }
         if is_listed(table, id.value) {

@@ -1,5 +1,5 @@
 -- `bits::bitbuffer::within` meets its contract. Assumes nothing.
-use Prim.Native.Nat.{◌^◌}
+use Prim.Native.Nat.{◌/◌, ◌^◌, ◌<◌}
 use native.Mathlib.Nat.{lt_of_lt_of_le}
 use native.Mathlib.Omega.{arith}
 use mathlib.Core.Path.{sym}
@@ -16,7 +16,8 @@ returns-then-width-gt63 c =
 pub returns-then-value-width-gt0 : goal.returns-then-value-width-gt0
 returns-then-value-width-gt0 c =
     let a = c.args in
-    sym (le-ltb a.value (2 ^ a.width) (shr_some a.value a.width c.if-value-width-gt0.true))
+    let above : 0 < a.value / 2 ^ a.width = omega (arith, c.if-value-width-gt0.true) in
+    sym (le-ltb a.value (2 ^ a.width) (shr_some a.value a.width above))
 
 pub returns : goal.returns
 returns c =

@@ -40,26 +40,26 @@ pub returns-in_default : goal.returns-in_default
 returns-in_default c =
     sym (c.loop-id.invariant.1 ∙ (tally-outside _ _ (by-refusal c.peek_type34_mbit_and_id-l.ensures (ap as_optional_u8 c.in_default.is) c.refusal.ensures)).eq)
 
-pub returns-then-not-id : goal.returns-then-not-id
-returns-then-not-id c =
-    sym (c.loop-id.invariant.1 ∙ (tally-ends _ _ (looked ((goal.at.returns-then-not-id c).In-Read)) (not-true _ c.if-not-id.true)).eq)
+pub returns-then-ended : goal.returns-then-ended
+returns-then-ended c =
+    sym (c.loop-id.invariant.1 ∙ (tally-ends _ _ (looked ((goal.at.returns-then-ended c).In-Read)) (not-true _ c.if-ended.true)).eq)
 
 pub returns-then-is_listed : goal.returns-then-is_listed
 returns-then-is_listed c =
-    sym (c.loop-id.invariant.1 ∙ (tally-listed _ _ (looked ((goal.at.returns-then-is_listed c).In-Read)) (not-false _ c.if-not-id.false)
+    sym (c.loop-id.invariant.1 ∙ (tally-listed _ _ (looked ((goal.at.returns-then-is_listed c).In-Read)) (not-false _ c.if-ended.false)
     (sym c.is_listed.ensures ∙ c.if-is_listed.true)).eq)
 
 pub returns-in_default-f : goal.returns-in_default-f
 unfolding word
 returns-in_default-f c =
-    sym (c.loop-id.invariant.1 ∙ (tally-on _ _ (looked ((goal.at.returns-in_default-f c).In-Read)) (not-false _ c.if-not-id.false)
+    sym (c.loop-id.invariant.1 ∙ (tally-on _ _ (looked ((goal.at.returns-in_default-f c).In-Read)) (not-false _ c.if-ended.false)
     (unlisted ((goal.at.returns-in_default-f c).Else-is_listed)).holds
     (stop _ (stop _ (by-refusal c.read-f.ensures (ap as_field c.in_default-f.is) c.refusal-in_default-f.ensures)))).eq)
 
 pub returns-in_default-p : goal.returns-in_default-p
 unfolding word
 returns-in_default-p c =
-    sym (c.loop-id.invariant.1 ∙ (tally-on _ _ (looked ((goal.at.returns-in_default-p c).In-Read)) (not-false _ c.if-not-id.false)
+    sym (c.loop-id.invariant.1 ∙ (tally-on _ _ (looked ((goal.at.returns-in_default-p c).In-Read)) (not-false _ c.if-ended.false)
     (unlisted ((goal.at.returns-in_default-p c).Else-is_listed)).holds
     (stop _ (step _ (size ((goal.at.returns-in_default-p c).In-Value)).holds (search local·rules)
     (by-refusal c.pass-p.ensures (ap as_moved c.in_default-p.is) c.refusal-in_default-p.ensures)))).eq)
@@ -83,4 +83,4 @@ loop-id-preserved c =
     let e = looked ((goal.at.loop-id-preserved c).In-Read) in
     let g = passed ((goal.at.loop-id-preserved c).In-To) in
     let m = (body-on e g).0 in
-    (omega arith, c.loop-id.invariant.1 ∙ (tally-on _ _ e (not-false _ c.if-not-id.false) (unlisted ((goal.at.loop-id-preserved c).Else-is_listed)).holds (step _ g body_tail (by refl refl))).eq)
+    (omega arith, c.loop-id.invariant.1 ∙ (tally-on _ _ e (not-false _ c.if-ended.false) (unlisted ((goal.at.loop-id-preserved c).Else-is_listed)).holds (step _ g body_tail (by refl refl))).eq)
