@@ -12,6 +12,7 @@ import re
 import sys
 
 DECLARED = re.compile(r"^\s*(?:(?:abbrev|unfoldable|pub|ruleset) )*([^\s(){}.;,@\"«»:]+)(?: \{[^{}\n]*\})* : ?(.*)$")
+ANSWER = re.compile(r"tie\.|\{M : Type 1\} → statement")
 WORD = re.compile(r"[^\s(){}\[\].;,@\"«»`|/:\\…“”]+")
 HUMP = re.compile(r"(?<=[a-z0-9])([A-Z])")
 # Names of std that a dash may join, beside the definitions declared here.
@@ -37,18 +38,14 @@ def files(*patterns):
 
 
 def declared():
-    words, lemmas, labels = set(), set(), set()
+    words, lemmas = set(), set()
     for f in files("crates/*/specs/**/*.antt", "crates/*/proofs/**/*.antt"):
-        lines = open(f, encoding="utf-8").read().split("\n")
-        for at, line in enumerate(lines):
+        for line in open(f, encoding="utf-8").read().split("\n"):
             m = DECLARED.match(line)
-            if not m or m[1] in ("use", "λ"):
-                continue
-            if re.match(r"tie\.|\{M : Type 1\} → statement", m[2]):
-                labels.add(m[1])
-            elif re.match(r"[a-z]", m[1]):
+            # An answer's label is the toolchain's.
+            if m and m[1] not in ("use", "λ") and not ANSWER.match(m[2]) and re.match(r"[a-z]", m[1]):
                 (lemmas if "-" in m[1] else words).add(m[1])
-    return words, lemmas, labels
+    return words, lemmas
 
 
 def snake(name):
@@ -75,8 +72,8 @@ def joined(name, names):
     return out
 
 
-def table():
-    words, lemmas, labels = declared()
+def turns():
+    words, lemmas = declared()
     new = {w: OTHERWISE.get(w, snake(w)) for w in words}
     names = set(new.values()) | NAMES
     # A lemma that would have the name of a definition gets another ending.
@@ -88,35 +85,33 @@ def table():
         # port.py has spelled this lemma anew already, and a definition gets its name now.
         if new[w] == w and any(snake(o) == w for o in words if o != w):
             new[w] = w + "_lem"
-    return {a: b for a, b in new.items() if a != b}, labels
+    return {a: b for a, b in new.items() if a != b}
+
+
+def turn(text, path, turned):
+    walk = re.search(r"/proofs/.*/(Proof|Answers|Invariants)\w*\.antt$", path)
+
+    def one(m):
+        w = m[0]
+        dotted = text[max(m.start() - 1, 0) : m.start()] == "."
+        # Behind a dot in a function's proof stands a step of the code, and in Rust a name without a hump or a dash is Rust's.
+        if w not in turned or not HUMP.search(w) and (walk and dotted or path.endswith(".rt") and "-" not in w):
+            return w
+        return turned[w]
+
+    if path.endswith(".md"):
+        return re.sub(r"`[^`\n]+`", lambda s: turn(s[0], "", turned), text)
+    return WORD.sub(one, text)
 
 
 if __name__ == "__main__":
-    turned, labels = table()
+    table = turns()
     if "--list" in sys.argv:
-        for a, b in sorted(turned.items()):
+        for a, b in sorted(table.items()):
             print(a, b)
         sys.exit()
-
-    def turn(text, path):
-        walk = re.search(r"/proofs/.*/(Proof|Answers|Invariants)\w*\.antt$", path)
-        rust, prose = path.endswith(".rt"), path.endswith(".md")
-
-        def one(m):
-            w = m[0]
-            dotted = text[max(m.start() - 1, 0) : m.start()] == "."
-            if w not in turned or (walk and dotted and not HUMP.search(w)):
-                return w
-            if (rust or prose) and "-" not in w and not HUMP.search(w):
-                return w
-            return turned[w]
-
-        if prose:
-            return re.sub(r"`[^`\n]+`", lambda s: "`" + turn(s[0][1:-1], "x.antt") + "`", text)
-        return WORD.sub(one, text)
-
     for f in files("crates/**/*.antt", "crates/**/*.rt", "crates/*/must-fail/*.edit", "README.md", "docs/*.md"):
         old = open(f, encoding="utf-8").read()
-        new = turn(old, f)
+        new = turn(old, f, table)
         if new != old:
             open(f, "w", encoding="utf-8").write(new)

@@ -1,4 +1,4 @@
-// Recorded calls from standard input, each made of the library as it is linked, a reading or a rewriting: a line with the answer
+// Recorded calls from standard input, each made of the library's own two, a reading or a rewriting: a line with the answer
 // for each. The answers that it is held to are the original's (`host/run record`).
 #![tactic(auto)]
 
