@@ -1,5 +1,5 @@
 -- `bits::bitbuffer::within` meets its contract. Assumes nothing.
-use Prim.Native.Nat.{◌/◌, ◌^◌, ◌<◌}
+use Prim.Native.Nat.{◌/◌, ◌^◌, ◌≤◌, ◌<◌}
 use native.Mathlib.Nat.{lt_of_lt_of_le}
 use native.Mathlib.Omega.{arith}
 use mathlib.Core.Path.{sym}
@@ -22,4 +22,5 @@ returns-then-value-width-gt0 c =
 pub returns : goal.returns
 returns c =
     let a = c.args in
-    sym (lt-ltb a.value (2 ^ a.width) (shr_none a.value a.width c.if-value-width-gt0.false))
+    let none : a.value / 2 ^ a.width ≤ 0 = omega (arith, c.if-value-width-gt0.false) in
+    sym (lt-ltb a.value (2 ^ a.width) (shr_none a.value a.width none))

@@ -1,5 +1,6 @@
 -- `elements::typed_pdu_fields::parse_type4_generic` meets its contract. Assumes nothing.
-use Prim.Native.Nat.{ℕ}
+use native.Mathlib.Omega.{arith}
+use Prim.Native.Nat.{◌≤◌, ◌<◌, ℕ}
 use mathlib.Core.Path.{ap}
 use mathlib.Core.Bool.{true}
 use mathlib.Core.List.{List}
@@ -56,22 +57,25 @@ returns-in_default-k c =
 pub returns-then-len-lt6 : goal.returns-then-len-lt6
 unfolding type4 word
 returns-then-len-lt6 c =
+    let few : c.in-Value.len < 6 = omega (arith, c.if-len-lt6.true) in
     answer generic_answer (counted (entries_underflow held
     (size ((goal.at.returns-then-len-lt6 c).In-Value))
-    (number ((goal.at.returns-then-len-lt6 c).In-Value-k)) c.if-len-lt6.true))
+    (number ((goal.at.returns-then-len-lt6 c).In-Value-k)) few))
 
 pub returns-in_default-d : goal.returns-in_default-d
 unfolding type4 word
 returns-in_default-d c =
+    let enough : 6 ≤ c.in-Value.len = omega (arith, c.if-len-lt6.false) in
     answer generic_answer (counted (entries-there held
     (size ((goal.at.returns-in_default-d c).In-Value))
-    (number ((goal.at.returns-in_default-d c).In-Value-k)) c.if-len-lt6.false
+    (number ((goal.at.returns-in_default-d c).In-Value-k)) enough
     (stop _ (stop _ (by-refusal c.read_kept-d.ensures (ap as_field c.in_default-d.is) c.refusal-in_default-d.ensures)))))
 
 pub returns : goal.returns
 unfolding type4 word
 returns c =
+    let enough : 6 ≤ c.in-Value.len = omega (arith, c.if-len-lt6.false) in
     answer generic_answer (counted (entries-there held
     (size ((goal.at.returns c).In-Value))
-    (number ((goal.at.returns c).In-Value-k)) c.if-len-lt6.false
+    (number ((goal.at.returns c).In-Value-k)) enough
     (step _ (step _ (by c.read_kept-d.ensures (ap as_field c.in-Value-d.is)) (search (local·rules, kept-local)) done) (search (local·rules, kept-local)) done)))

@@ -1,5 +1,6 @@
 -- `elements::typed_pdu_fields::read_closing_mbit` meets its contract. Assumes nothing.
-use mathlib.Core.Path.{ap}
+use native.Mathlib.Omega.{arith}
+use mathlib.Core.Path.{◌≡◌, ap}
 use borrow.Author.Tests.{eq-eqb, ne_eqb}
 use Rattle.bits.specs.PduParseError.{invalid_trailing_mbit_value}
 use Rattle.bits.specs.Reader.{word}
@@ -23,9 +24,10 @@ returns-in_default c =
 pub returns-then-m-eq0 : goal.returns-then-m-eq0
 unfolding closing word
 returns-then-m-eq0 c =
-    so (step _ (mbit ((goal.at.returns-then-m-eq0 c).In-Value)).holds (search local·rules) (passed invalid_trailing_mbit_value (eq-eqb _ _ c.if-m-eq0.true)))
+    let unset : c.in-Value.m ≡ 0 = omega (arith, c.if-m-eq0.true) in
+    so (step _ (mbit ((goal.at.returns-then-m-eq0 c).In-Value)).holds (search local·rules) (passed invalid_trailing_mbit_value (eq-eqb _ _ unset)))
 
 pub returns : goal.returns
 unfolding closing word
 returns c =
-    so (step _ (mbit ((goal.at.returns c).In-Value)).holds (search local·rules) (failed invalid_trailing_mbit_value (ne_eqb _ _ c.if-m-eq0.false)))
+    so (step _ (mbit ((goal.at.returns c).In-Value)).holds (search local·rules) (failed invalid_trailing_mbit_value (ne_eqb _ _ (λ e. c.if-m-eq0.false (omega (arith, e))))))

@@ -1,7 +1,8 @@
 -- `elements::typed_pdu_fields::skip_unlisted` meets its contract. The loop's invariant: the answer is that of what stands at the place, where `n`
 -- elements were passed before, a bit at least for each. The measure is what is left of the bits. Assumes nothing.
+use mathlib.Core.Bool.{true, false}
 use native.Mathlib.Omega.{arith}
-use mathlib.Core.Path.{refl, sym, ◌∙◌, ap}
+use mathlib.Core.Path.{◌≡◌, refl, sym, ◌∙◌, ap}
 use borrow.Author.Rules.{rules}
 use borrow.Author.Tests.{not-true, not-false}
 use Rattle.bits.specs.Reader.{word}
@@ -42,24 +43,28 @@ returns-in_default c =
 
 pub returns-then-ended : goal.returns-then-ended
 returns-then-ended c =
-    sym (c.loop-id.invariant.1 ∙ (tally-ends _ _ (looked ((goal.at.returns-then-ended c).In-Read)) (not-true _ c.if-ended.true)).eq)
+    let off : c.in-Read.id.present ≡ false = grind (arith, c.if-ended.true) in
+    sym (c.loop-id.invariant.1 ∙ (tally-ends _ _ (looked ((goal.at.returns-then-ended c).In-Read)) off).eq)
 
 pub returns-then-is_listed : goal.returns-then-is_listed
 returns-then-is_listed c =
-    sym (c.loop-id.invariant.1 ∙ (tally-listed _ _ (looked ((goal.at.returns-then-is_listed c).In-Read)) (not-false _ c.if-ended.false)
+    let on : c.in-Read.id.present ≡ true = grind (arith, c.if-ended.false) in
+    sym (c.loop-id.invariant.1 ∙ (tally-listed _ _ (looked ((goal.at.returns-then-is_listed c).In-Read)) on
     (sym c.is_listed.ensures ∙ c.if-is_listed.true)).eq)
 
 pub returns-in_default-f : goal.returns-in_default-f
 unfolding word
 returns-in_default-f c =
-    sym (c.loop-id.invariant.1 ∙ (tally-on _ _ (looked ((goal.at.returns-in_default-f c).In-Read)) (not-false _ c.if-ended.false)
+    let on : c.in-Read.id.present ≡ true = grind (arith, c.if-ended.false) in
+    sym (c.loop-id.invariant.1 ∙ (tally-on _ _ (looked ((goal.at.returns-in_default-f c).In-Read)) on
     (unlisted ((goal.at.returns-in_default-f c).Else-is_listed)).holds
     (stop _ (stop _ (by-refusal c.read-f.ensures (ap as_field c.in_default-f.is) c.refusal-in_default-f.ensures)))).eq)
 
 pub returns-in_default-p : goal.returns-in_default-p
 unfolding word
 returns-in_default-p c =
-    sym (c.loop-id.invariant.1 ∙ (tally-on _ _ (looked ((goal.at.returns-in_default-p c).In-Read)) (not-false _ c.if-ended.false)
+    let on : c.in-Read.id.present ≡ true = grind (arith, c.if-ended.false) in
+    sym (c.loop-id.invariant.1 ∙ (tally-on _ _ (looked ((goal.at.returns-in_default-p c).In-Read)) on
     (unlisted ((goal.at.returns-in_default-p c).Else-is_listed)).holds
     (stop _ (step _ (size ((goal.at.returns-in_default-p c).In-Value)).holds (search local·rules)
     (by-refusal c.pass-p.ensures (ap as_moved c.in_default-p.is) c.refusal-in_default-p.ensures)))).eq)
@@ -80,7 +85,8 @@ loop-id-smaller c =
 pub loop-id-preserved : goal.loop-id-preserved
 unfolding word
 loop-id-preserved c =
+    let on : c.in-Read.id.present ≡ true = grind (arith, c.if-ended.false) in
     let e = looked ((goal.at.loop-id-preserved c).In-Read) in
     let g = passed ((goal.at.loop-id-preserved c).In-To) in
     let m = (body-on e g).0 in
-    (omega arith, c.loop-id.invariant.1 ∙ (tally-on _ _ e (not-false _ c.if-ended.false) (unlisted ((goal.at.loop-id-preserved c).Else-is_listed)).holds (step _ g body_tail (by refl refl))).eq)
+    (omega arith, c.loop-id.invariant.1 ∙ (tally-on _ _ e on (unlisted ((goal.at.loop-id-preserved c).Else-is_listed)).holds (step _ g body_tail (by refl refl))).eq)

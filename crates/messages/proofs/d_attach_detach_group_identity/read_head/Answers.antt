@@ -1,5 +1,6 @@
 -- `messages::d_attach_detach_group_identity::read_head` meets its contract: the type, and four bits as one field; another type is refused.
-use mathlib.Core.Path.{ap}
+use native.Mathlib.Omega.{arith}
+use mathlib.Core.Path.{◌≡◌, ap}
 use Rattle.bits.specs.Reader.{word}
 use Rattle.bits.specs.ReaderLaws.{local_tail, field-local}
 use Rattle.bits.specs.Placed.{window, as_field8}
@@ -15,7 +16,8 @@ use Rattle.messages.proofs.d_attach_detach_group_identity.read_head.Goals.{Then-
 abbrev past-t : Then-pdu_type-eq-D_ATTACH_DETACH_GROUP_IDENTITY → Way attach_detach_head
 unfolding word attach_detach_head
 past-t h =
-    past_type _ _ h.if-pdu_type-eq-D_ATTACH_DETACH_GROUP_IDENTITY.true (by h.read_u8-t.ensures (ap as_field8 h.in-Value.is))
+    let own : h.in-Value.pdu_type ≡ 10 = omega (arith, h.if-pdu_type-eq-D_ATTACH_DETACH_GROUP_IDENTITY.true) in
+    past_type _ _ own (by h.read_u8-t.ensures (ap as_field8 h.in-Value.is))
 
 pub returns-in_default : goal.returns-in_default
 unfolding word attach_detach_head
@@ -35,4 +37,4 @@ returns-then-pdu_type-eq-D_ATTACH_DETACH_GROUP_IDENTITY c =
 pub returns : goal.returns
 unfolding word attach_detach_head
 returns c =
-    so (stop _ (type_other _ c.if-pdu_type-eq-D_ATTACH_DETACH_GROUP_IDENTITY.false (by c.read_u8-t.ensures (ap as_field8 c.in-Value.is))))
+    so (stop _ (type_other _ (λ e. c.if-pdu_type-eq-D_ATTACH_DETACH_GROUP_IDENTITY.false (omega (arith, e))) (by c.read_u8-t.ensures (ap as_field8 c.in-Value.is))))

@@ -48,7 +48,8 @@ list-behind : (c : In-Value-m) (x : Placed GroupIdentityLocationDemand) → let 
     → Gives demand_body a.octets.now a.c x
 unfolding word
 list-behind c x g =
-    mode-behind (by c.read_u8-f.ensures (ap as_field8 c.in-Value.is)) c.if-reserved-gt0.false x
+    let unset : c.in-Value.reserved ≤ 0 = omega (arith, c.if-reserved-gt0.false) in
+    mode-behind (by c.read_u8-f.ensures (ap as_field8 c.in-Value.is)) unset x
     (step _ (by c.read_u8-m.ensures (ap as_field8 c.in-Value-m.is)) (search local·rules) g)
 
 -- the O-bit, the list's slot, and with the closing M-bit the list
@@ -72,12 +73,14 @@ returns-in_default c =
 pub returns-then-reserved-gt0 : goal.returns-then-reserved-gt0
 unfolding location_demand
 returns-then-reserved-gt0 c =
-    c.refused-then-reserved-gt0.ensures ∙ answer location_demand_answer (exact-stop c.args.len (reserved (first ((goal.at.returns-then-reserved-gt0 c).In-Value)) c.if-reserved-gt0.true))
+    let is_set : 0 < c.in-Value.reserved = omega (arith, c.if-reserved-gt0.true) in
+    c.refused-then-reserved-gt0.ensures ∙ answer location_demand_answer (exact-stop c.args.len (reserved (first ((goal.at.returns-then-reserved-gt0 c).In-Value)) is_set))
 
 pub returns-in_default-m : goal.returns-in_default-m
 unfolding word location_demand
 returns-in_default-m c =
-    c.refused-in_default-m.ensures ∙ answer location_demand_answer (exact-stop c.args.len (mode-behind (first ((goal.at.returns-in_default-m c).In-Value)) c.if-reserved-gt0.false _
+    let unset : c.in-Value.reserved ≤ 0 = omega (arith, c.if-reserved-gt0.false) in
+    c.refused-in_default-m.ensures ∙ answer location_demand_answer (exact-stop c.args.len (mode-behind (first ((goal.at.returns-in_default-m c).In-Value)) unset _
     (stop _ (by-refusal c.read_u8-m.ensures (ap as_field8 c.in_default-m.is) c.refusal-in_default-m.ensures))))
 
 pub returns-in_default-o : goal.returns-in_default-o
