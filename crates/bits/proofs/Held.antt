@@ -1,6 +1,6 @@
 -- What the answers of `within` and `holds` say, and what a read answers then. Assumes nothing.
-use Prim.Native.Nat.{ℕ, ◌^◌, ◌≤◌, ◌<◌}
-use native.Mathlib.Nat.{lt_of_lt_of_le}
+use Prim.Native.Nat.{ℕ, ◌^◌, ◌%◌, ◌≤◌, ◌<◌}
+use native.Mathlib.Nat.{lt_of_lt_of_le, mod-eq_of_lt}
 use mathlib.Core.Path.{◌≡◌, sym, ap₂, ◌∙◌}
 use mathlib.Core.Bool.{Bool, true, false}
 use mathlib.Core.List.{List}
@@ -34,6 +34,8 @@ module _ (os : List ℕ) (c : Cursor) (w : ℕ) {b : Bool} (e : b ≡ leb w (lef
   pub read-ended : (n : ℕ) → b ≡ false → halted buffer_ended ≡ at (word n w) os c
   read-ended n t = so (word-ended os c w n (not-held t))
 
--- the value of a field of w bits fits n
-pub value-fits : (os : List ℕ) (from w n : ℕ) {v : ℕ} → v ≡ field_at os from w → w ≤ n → v < 2 ^ n
-value-fits os from w n e h = rw e (lt_of_lt_of_le (number-take_lt w (drop from (bits_of os))) (pow_mono h))
+-- the value of a field of w bits has no more than n
+pub low-bits : (os : List ℕ) (from w n : ℕ) {u v : ℕ} → u ≡ v % 2 ^ n → v ≡ field_at os from w → w ≤ n → u ≡ field_at os from w
+low-bits os from w n e q h =
+    let b = lt_of_lt_of_le (number-take_lt w (drop from (bits_of os))) (pow_mono h) in
+    rw (e, q) (mod-eq_of_lt b)

@@ -1,16 +1,10 @@
 -- A reader of bits, run at a cursor over octets; and what each answer of the code says.
-use Rattle.std.specs.Prelude.{ℕ, ◌+◌, ◌-◌, ◌*◌, ◌%◌, min, cond, List, length, take, drop, eqb}
+use Rattle.std.specs.Prelude.{ℕ, ◌+◌, ◌-◌, ◌*◌, ◌%◌, min, cond, List, length, take, drop, eqb, Result, Ok, Err}
 use Rattle.bits.specs.Bits.{Bits, number, bits_of}
+use Rattle.bits.specs.PduParseError.{number_of, error_of}
 use Rattle.bits.specs.Reader.{Answer, got, refused, Reader}
 use Rattle.bits.specs.declared.bitbuffer.Cursor.{Cursor}
-use Rattle.bits.specs.declared.bitbuffer.Field.{Field}
-use Rattle.bits.specs.declared.bitbuffer.Field.TheVariants as F
-use Rattle.bits.specs.declared.bitbuffer.Field8.{Field8}
-use Rattle.bits.specs.declared.bitbuffer.Field8.TheVariants as F8
-use Rattle.bits.specs.declared.bitbuffer.Field32.{Field32}
-use Rattle.bits.specs.declared.bitbuffer.Field32.TheVariants as F32
-use Rattle.bits.specs.declared.bitbuffer.Moved.{Moved}
-use Rattle.bits.specs.declared.bitbuffer.Moved.TheVariants as M
+use Rattle.bits.specs.declared.pdu_parse_error.PduParseErr.{PduParseErr}
 use Rattle.bits.specs.declared.bitbuffer.Place.{Place}
 
 -- the bits left at a cursor: none past its end, and none past the octets
@@ -29,10 +23,10 @@ field_at os from w = number (take w (drop from (bits_of os)))
 abbrev pub onward : ℕ → Cursor → Cursor
 onward n c = record { at = c.at + n; end = c.end }
 
--- a value and the moved place, or a refusal's number
+-- a value and the moved place, or a refusal
 pub data Placed (A : Type 0) : Type 0 where
   placed : A → Cursor → Placed A
-  halted : ℕ → Placed A
+  halted : PduParseErr → Placed A
 
 -- an answer over the n bits left at a cursor: the cursor moves by as many as were used
 abbrev pub place : {A : Type 0} → Cursor → ℕ → Answer A → Placed A
@@ -45,31 +39,28 @@ at r os c = place c (length (window os c)) (r (window os c))
 
 -- ## the code's answers
 
-abbrev pub as_field : Field → Placed ℕ
-as_field (F.Value v c) = placed v c
-as_field (F.Refused n) = halted n
+-- a value, of which f says what it is, and the moved place, or a refusal
+abbrev pub as_by : {A B : Type 0} → (A → B) → Result (A × Cursor) PduParseErr → Placed B
+as_by f (Ok (v , c)) = placed (f v) c
+as_by f (Err e) = halted e
 
-abbrev pub as_field8 : Field8 → Placed ℕ
-as_field8 (F8.Value v c) = placed v c
-as_field8 (F8.Refused n) = halted n
+abbrev pub as_read : {A : Type 0} → Result (A × Cursor) PduParseErr → Placed A
+as_read = as_by (λ v. v)
 
-abbrev pub as_field32 : Field32 → Placed ℕ
-as_field32 (F32.Value v c) = placed v c
-as_field32 (F32.Refused n) = halted n
-
-abbrev pub as_moved : Moved → Placed Unit
-as_moved (M.To c) = placed tt c
-as_moved (M.Refused n) = halted n
+abbrev pub as_moved : Result Cursor PduParseErr → Placed Unit
+as_moved (Ok c) = placed tt c
+as_moved (Err e) = halted e
 
 -- a place to write at: behind a refusal its number stands in the lowest octet
 abbrev pub as_place : Place → Placed Unit
-as_place p = cond (eqb p.halt 0) (placed tt (record { at = p.at; end = p.end })) (halted (p.halt % 256))
+as_place p = cond (eqb p.halt 0) (placed tt (record { at = p.at; end = p.end })) (halted (error_of (p.halt % 256)))
 
--- w bits written at a cursor, or a refusal's number
-abbrev pub stored : ℕ → Cursor → ℕ → Placed Unit
-stored w c n = cond (eqb n 0) (placed tt (onward w c)) (halted n)
+-- w bits written at a cursor, or a refusal
+abbrev pub stored : ℕ → Cursor → Result Unit PduParseErr → Placed Unit
+stored w c (Ok z) = placed tt (onward w c)
+stored w c (Err e) = halted e
 
 -- the number of a refusal, 0 if there is none
 abbrev pub refusal : {A : Type 0} → Placed A → ℕ
 refusal (placed a c) = 0
-refusal (halted n) = n
+refusal (halted e) = number_of e

@@ -1,4 +1,6 @@
 -- Readers at a cursor, one after the other.
+use Rattle.std.specs.Prelude.{Result, Ok, Err, IsErrAnd}
+use Rattle.std.proofs.lemmas.Result.{err_from_is_err_and}
 use Rattle.std.specs.Prelude.{ℕ, ◌+◌, ◌-◌, ◌*◌, ◌≤◌, ◌<◌, ◌≡◌, Bool, cond, List, ◌++◌, take, leb}
 use native.Mathlib.Omega.{arith}
 use Rattle.std.proofs.Math.Path.{refl}
@@ -12,10 +14,11 @@ use Rattle.bits.specs.Bits.{Bits, bits_of}
 use Rattle.bits.specs.BitsLaws.{length-bits_of}
 use Rattle.bits.specs.Reader.{Answer, got, refused, Reader, ◌>>=◌, field, word, pass, Tail}
 use Rattle.bits.specs.ReaderLaws.{zero_one, local_tail, field-local, field-enough, field-short}
-use Rattle.bits.specs.Placed.{window, left, field_at, onward, Placed, placed, halted, place, at, refusal}
+use Rattle.bits.specs.Placed.{window, left, field_at, onward, Placed, placed, halted, place, at, as_by, as_read, as_moved}
 use Rattle.bits.specs.declared.bitbuffer.Cursor.{Cursor}
+use Rattle.bits.specs.declared.pdu_parse_error.PduParseErr.{PduParseErr}
 
-pub halted-placed : {A B : Type 0} {a : A} {c : Cursor} {n : ℕ} → halted n ≡ placed a c → B
+pub halted-placed : {A B : Type 0} {a : A} {c : Cursor} {n : PduParseErr} → halted n ≡ placed a c → B
 halted-placed e = zero_one (cc)
 
 pub length-window : (os : List ℕ) (c : Cursor) → length (window os c) ≡ left (length os) c
@@ -61,14 +64,30 @@ pub record Told {A : Type 0} (r : Reader A) (os : List ℕ) (c : Cursor) (a : A)
 pub so : {A : Type 0} {r : Reader A} {os : List ℕ} {c : Cursor} {x : Placed A} → Gives r os c x → x ≡ at r os c
 so g = sym g.eq
 
--- from a callee's promise, and what its answer was told to be
+-- what a callee's promise tells of its answer
+pub from : {A : Type 0} {r : Reader A} {os : List ℕ} {c : Cursor} {x : Placed A} → x ≡ at r os c → Gives r os c x
+from e = record { eq = sym e }
+
+-- the same, where the answer was told to be another
 pub by : {A : Type 0} {r : Reader A} {os : List ℕ} {c : Cursor} {x y : Placed A} → x ≡ at r os c → x ≡ y → Gives r os c y
 by e p = record { eq = sym e ∙ p }
 
--- and a refusal, by the number that the answer's method gives
-pub by-refusal : {A : Type 0} {r : Reader A} {os : List ℕ} {c : Cursor} {x : Placed A} {k n : ℕ} → x ≡ at r os c → x ≡ halted k → n ≡ refusal x
-    → Gives r os c (halted n)
-by-refusal {k = k} {n = n} e p q = let h : n ≡ k = q ∙ ap refusal p in record { eq = sym e ∙ p ∙ ap halted (sym h) }
+-- the same of a refusal that was taken out of the answer
+pub refused_by : {A : Type 0} {r : Reader A} {os : List ℕ} {c : Cursor} {y : Result (A × Cursor) PduParseErr} {e : PduParseErr}
+    → as_read y ≡ at r os c → y ≡ Err e → Gives r os c (halted e)
+refused_by e p = by e (ap as_read p)
+
+pub refused_moving : {r : Reader Unit} {os : List ℕ} {c : Cursor} {y : Result Cursor PduParseErr} {e : PduParseErr}
+    → as_moved y ≡ at r os c → y ≡ Err e → Gives r os c (halted e)
+refused_moving e p = by e (ap as_moved p)
+
+-- A REFUSAL HANDED UP by `?`
+module _ {A : Type 0} {r : Reader A} {os : List ℕ} {c : Cursor} {e : PduParseErr} where
+  pub handed_up_by : {X : Type 0} (f : X → A) (y : Result (X × Cursor) PduParseErr) → IsErrAnd y (λ x. x ≡ e) → Gives r os c (halted e) → as_by f y ≡ at r os c
+  handed_up_by f y h g = let w = err_from_is_err_and y h in rw (w.1, w.2) (so g)
+
+  pub handed_up : (y : Result (A × Cursor) PduParseErr) → IsErrAnd y (λ x. x ≡ e) → Gives r os c (halted e) → as_read y ≡ at r os c
+  handed_up = handed_up_by (λ v. v)
 
 module _ {A : Type 0} {r : Reader A} {os : List ℕ} {c : Cursor} where
   pub told : Tail r → {a : A} {k : Cursor} → Gives r os c (placed a k) → Told r os c a k
@@ -87,7 +106,7 @@ module _ {A : Type 0} {r : Reader A} {os : List ℕ} {c : Cursor} where
           let used' : c.at + length (window os c) ≡ k'.at + length (window os k') = rw w.there (omega (arith, w.long)) in
           rw (← h, ← ya) (record { said = said'; on = omega arith; used = used'; same_end = refl })
 
-  pub told-not : {n : ℕ} → Gives r os c (halted n) → r (window os c) ≡ refused n
+  pub told-not : {n : PduParseErr} → Gives r os c (halted n) → r (window os c) ≡ refused n
   unfolding at
   told-not {n} e = go (r (window os c)) e.eq
     where
@@ -95,7 +114,7 @@ module _ {A : Type 0} {r : Reader A} {os : List ℕ} {c : Cursor} where
       go (refused m) e = cc
       go (got a rest) e = halted-placed (sym e)
 
-  pub gives-not : {n : ℕ} → r (window os c) ≡ refused n → Gives r os c (halted n)
+  pub gives-not : {n : PduParseErr} → r (window os c) ≡ refused n → Gives r os c (halted n)
   unfolding at
   gives-not e = record { eq = rw e }
 
@@ -105,6 +124,10 @@ module _ {A : Type 0} {r : Reader A} {os : List ℕ} {c : Cursor} where
   gives {a} {k} e o u s =
       let p : c.at + length (window os c) - length (window os k) ≡ k.at = omega arith in
       record { eq = rw e (rw (p, ← s)) }
+
+pub handed_up_moved : {r : Reader Unit} {os : List ℕ} {c : Cursor} {e : PduParseErr} (y : Result Cursor PduParseErr)
+    → IsErrAnd y (λ x. x ≡ e) → Gives r os c (halted e) → as_moved y ≡ at r os c
+handed_up_moved y h g = let w = err_from_is_err_and y h in rw (w.1, w.2) (so g)
 
 module _ {A B : Type 0} {r : Reader A} (f : A → Reader B) {os : List ℕ} {c : Cursor} where
   -- ONE READER, AND THEN THE NEXT
@@ -117,14 +140,14 @@ module _ {A B : Type 0} {r : Reader A} (f : A → Reader B) {os : List ℕ} {c :
       go (got b rest) t e = rw (t.used, ← t.same_end) e
 
   -- A REFUSAL ENDS IT
-  pub stop : {n : ℕ} → Gives r os c (halted n) → Gives (r >>= f) os c (halted n)
+  pub stop : {n : PduParseErr} → Gives r os c (halted n) → Gives (r >>= f) os c (halted n)
   stop e = gives-not (rw (told-not e))
 
 -- THE END
 pub done : {A : Type 0} {a : A} {os : List ℕ} {c : Cursor} → Gives (got a) os c (placed a c)
 done = gives refl (omega arith) refl refl
 
-pub refuse : {A : Type 0} {n : ℕ} {os : List ℕ} {c : Cursor} → Gives {A = A} (λ bs. refused n) os c (halted n)
+pub refuse : {A : Type 0} {n : PduParseErr} {os : List ℕ} {c : Cursor} → Gives {A = A} (λ bs. refused n) os c (halted n)
 refuse = gives-not refl
 
 -- ## fields: ONE LAW FOR EVERY WIDTH

@@ -2,7 +2,7 @@
 use Rattle.std.specs.Prelude.{ℕ, zero, suc, ◌+◌, ◌-◌, ◌<◌, ◌≡◌, refl, Bool, true, false, List, [], ◌∷◌, ◌++◌, length, take, drop, set, replicate}
 use Rattle.std.proofs.Common.{add-one, arith, sym, ◌∙◌, append_assoc, append-nil, take-append-drop, take-suc-set, drop-set-lt, drop-drop, eq-eqb, ne_eqb}
 use Rattle.std.proofs.Math.Path.{ap}
-use Rattle.std.proofs.Math.Option.{Option, none, some}
+use Rattle.std.specs.Prelude.{Option, None, Some}
 use Rattle.bits.specs.PduParseError.{inconsistent_length}
 use Rattle.bits.specs.Bits.{Bits}
 use Rattle.bits.specs.Reader.{got, Reader, ◌>>=◌, unless, optional, exactly, times, Tail}
@@ -10,6 +10,7 @@ use Rattle.bits.specs.ReaderLaws.{then-then, then_same}
 use Rattle.bits.specs.Placed.{window, Placed, placed, halted, at}
 use Rattle.bits.specs.PlacedLaws.{Gives, told, told-not, gives, gives-not, step, stop, done, refuse}
 use Rattle.bits.specs.declared.bitbuffer.Cursor.{Cursor}
+use Rattle.bits.specs.declared.pdu_parse_error.PduParseErr.{PduParseErr}
 
 -- only what a reader does at the bits left counts
 pub alike : {A : Type 0} {r : Reader A} {os : List ℕ} {c : Cursor} {x : Placed A} (r' : Reader A) → r (window os c) ≡ r' (window os c) → Gives r' os c x → Gives r os c x
@@ -18,16 +19,16 @@ alike r' e g = record { eq = rw e g.eq }
 
 -- ## tests
 
-pub passed : (n : ℕ) {b : Bool} {os : List ℕ} {c : Cursor} → b ≡ true → Gives (unless b n) os c (placed tt c)
+pub passed : (n : PduParseErr) {b : Bool} {os : List ℕ} {c : Cursor} → b ≡ true → Gives (unless b n) os c (placed tt c)
 passed n e = rw e done
 
-pub failed : (n : ℕ) {b : Bool} {os : List ℕ} {c : Cursor} → b ≡ false → Gives (unless b n) os c (halted n)
+pub failed : (n : PduParseErr) {b : Bool} {os : List ℕ} {c : Cursor} → b ≡ false → Gives (unless b n) os c (halted n)
 failed n e = rw e refuse
 
 -- a reader that runs where it is wanted, with values of another type
 pub optional_through : {A B : Type 0} (f : Option A → B) (b : Bool) (r : Reader A) (bs : Bits)
-    → optional (λ a. f (some a)) (f none) b r bs ≡ (optional some none b r >>= λ o. got (f o)) bs
-optional_through f true r bs = sym (then-then (r bs) (λ a. got (some a)) (λ o. got (f o)))
+    → optional (λ a. f (Some a)) (f None) b r bs ≡ (optional Some None b r >>= λ o. got (f o)) bs
+optional_through f true r bs = sym (then-then (r bs) (λ a. got (Some a)) (λ o. got (f o)))
 optional_through f false r bs = refl
 
 -- ## a reader that has to use n bits
@@ -44,7 +45,7 @@ module _ {A : Type 0} {r : Reader A} {os : List ℕ} {c : Cursor} where
       let t = told lr e in
       gives-not (rw t.said (rw (ne_eqb (length (window os c)) (n + length (window os k)) (λ q. h (omega arith)))))
 
-  pub exact-stop : (n : ℕ) {m : ℕ} → Gives r os c (halted m) → Gives (exactly n r) os c (halted m)
+  pub exact-stop : (n : ℕ) {m : PduParseErr} → Gives r os c (halted m) → Gives (exactly n r) os c (halted m)
   exact-stop n e = gives-not (rw (told-not e))
 
 -- ## a reader run a number of times
@@ -79,7 +80,7 @@ module _ {A B : Type 0} (g : List A → B) (r : Reader A) where
         (alike (r >>= λ a. gathered g r (n - suc i) (take i xs ++ a ∷ [])) (gathered-suc (n - suc i) (take i xs) (window os k))
         (step (λ a. gathered g r (n - suc i) (take i xs ++ a ∷ [])) e lr (record { eq = refl }))).eq
 
-    pub turned-not : (m : ℕ) → Gives r os k (halted m) → at (gathered g r (n - i) (take i xs)) os k ≡ halted m
+    pub turned-not : (m : PduParseErr) → Gives r os k (halted m) → at (gathered g r (n - i) (take i xs)) os k ≡ halted m
     turned-not m e =
         rw one_less
         (alike (r >>= λ a. gathered g r (n - (i + 1)) (take i xs ++ a ∷ [])) (gathered-suc (n - (i + 1)) (take i xs) (window os k))

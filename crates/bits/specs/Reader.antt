@@ -2,11 +2,12 @@
 use Rattle.std.specs.Prelude.{ℕ, zero, suc, ◌+◌, ◌≡◌, Bool, true, false, cond, List, [], ◌∷◌, ◌++◌, length, take, drop, leb, eqb}
 use Rattle.bits.specs.PduParseError.{buffer_ended, inconsistent_length}
 use Rattle.bits.specs.Bits.{Bits, number}
+use Rattle.bits.specs.declared.pdu_parse_error.PduParseErr.{PduParseErr}
 
--- a value and the bits that are left, or a refusal's number
+-- a value and the bits that are left, or a refusal
 pub data Answer (A : Type 0) : Type 0 where
   got : A → Bits → Answer A
-  refused : ℕ → Answer A
+  refused : PduParseErr → Answer A
 
 abbrev pub Reader : Type 0 → Type 0
 Reader A = Bits → Answer A
@@ -34,7 +35,7 @@ unfoldable pub pass : ℕ → Reader Unit
 pass w = field w >>= λ v. got tt
 
 -- refused with n unless the test holds
-abbrev pub unless : Bool → ℕ → Reader Unit
+abbrev pub unless : Bool → PduParseErr → Reader Unit
 unless true n bs = got tt bs
 unless false n bs = refused n
 

@@ -9,18 +9,19 @@ use Rattle.bits.specs.PduParseError.{buffer_ended, inconsistent_length}
 use Rattle.bits.specs.Bits.{Bits, number, digits}
 use Rattle.bits.specs.BitsLaws.{number-take_lt, length_digits, number_digits}
 use Rattle.bits.specs.Reader.{Answer, got, refused, Reader, then, ◌>>=◌, field, word, pass, unless, optional, exactly, times, Local, Tail}
+use Rattle.bits.specs.declared.pdu_parse_error.PduParseErr.{PduParseErr}
 
 -- two constructors are never equal: of such an equation `cc` makes 0 ≡ 1
 pub zero_one : {P : Type 0} → ◌≡◌ {A = ℕ} 0 1 → P
 zero_one z = absurd (omega arith)
 
-pub refused-got : {A B : Type 0} {n : ℕ} {a : A} {rest : Bits} → refused n ≡ got a rest → B
+pub refused-got : {A B : Type 0} {n : PduParseErr} {a : A} {rest : Bits} → refused n ≡ got a rest → B
 refused-got e = zero_one (cc)
 
-pub got-refused : {A B : Type 0} {n : ℕ} {a : A} {rest : Bits} → got a rest ≡ refused n → B
+pub got-refused : {A B : Type 0} {n : PduParseErr} {a : A} {rest : Bits} → got a rest ≡ refused n → B
 got-refused e = refused-got (sym e)
 
-pub refused-same : {A : Type 0} {m n : ℕ} → ◌≡◌ {A = Answer A} (refused m) (refused n) → m ≡ n
+pub refused-same : {A : Type 0} {m n : PduParseErr} → ◌≡◌ {A = Answer A} (refused m) (refused n) → m ≡ n
 refused-same e = cc
 
 -- what a value from two readers in turn rests on (what is learnt is bound by a λ, so that it does not unfold)
@@ -56,7 +57,7 @@ local-more l bs zs {a} {rest} e =
 pub got-local : {A : Type 0} (x : A) → Local (λ bs. got x bs)
 got-local x = record { at = λ bs a rest e. record { used = []; split = cc; any = λ zs. let h : x ≡ a = cc in rw h } }
 
-pub refused-local : {A : Type 0} (n : ℕ) → Local {A = A} (λ bs. refused n)
+pub refused-local : {A : Type 0} (n : PduParseErr) → Local {A = A} (λ bs. refused n)
 refused-local n = record { at = λ bs a rest e. refused-got e }
 
 joined : (u v rest : Bits) {bs mid : Bits} → bs ≡ u ++ mid → mid ≡ v ++ rest → bs ≡ (u ++ v) ++ rest
@@ -145,7 +146,7 @@ pass-local w = bind_local (field w) _ (field-local w) (λ v. got-local tt)
 
 -- ## tests, lengths, repetition
 
-pub unless-local : (b : Bool) (n : ℕ) → Local (unless b n)
+pub unless-local : (b : Bool) (n : PduParseErr) → Local (unless b n)
 unless-local true n = got-local tt
 unless-local false n = refused-local n
 
@@ -199,7 +200,7 @@ exactly-local n r l = record {
 
 pub data Agree {A : Type 0} (x y : Answer A) (zs zs' : Bits) : Type 0 where
   both : (a : A) → x ≡ got a zs → y ≡ got a zs' → Agree x y zs zs'
-  neither : (m n : ℕ) → x ≡ refused m → y ≡ refused n → Agree x y zs zs'
+  neither : (m n : PduParseErr) → x ≡ refused m → y ≡ refused n → Agree x y zs zs'
 
 -- r, which uses u wherever it gives a value, reads u alike before any two endings
 module _ {A : Type 0} {r : Reader A} (l : Local r) (u : Bits) (uses : (zs : Bits) (a : A) (rest : Bits) → r (u ++ zs) ≡ got a rest → rest ≡ zs) where
@@ -289,12 +290,12 @@ pub got_follows : {A B : Type 0} (a : A) (g : A → B) → Follows (λ bs. got a
 got_follows a g = record { at = λ bs x rest e. cc }
 
 -- r alone asks the test; what r does then may rest on it
-pub unless_follows : {A B : Type 0} (b : Bool) (n : ℕ) (f : Unit → Reader A) (w : Reader B) {g : A → B} → (b ≡ true → Follows (f tt) w g) → Follows (unless b n >>= f) w g
+pub unless_follows : {A B : Type 0} (b : Bool) (n : PduParseErr) (f : Unit → Reader A) (w : Reader B) {g : A → B} → (b ≡ true → Follows (f tt) w g) → Follows (unless b n >>= f) w g
 unless_follows true n f w h = h refl
 unless_follows false n f w h = record { at = λ bs a rest e. refused-got e }
 
 -- the same where the test stands second
-pub unless-passes : {A B : Type 0} (b : Bool) (n m : ℕ) (r : Reader A) (f : A → Reader B) → (b ≡ true → Passes m (r >>= f)) → Passes m (r >>= λ a. unless b n >>= λ z. f a)
+pub unless-passes : {A B : Type 0} (b : Bool) (n : PduParseErr) (m : ℕ) (r : Reader A) (f : A → Reader B) → (b ≡ true → Passes m (r >>= f)) → Passes m (r >>= λ a. unless b n >>= λ z. f a)
 unless-passes true n m r f h = h refl
 unless-passes false n m r f h = record { at = λ bs a rest e. split-then (r bs) _ e (λ x mid p q. refused-got q) }
 

@@ -1,8 +1,9 @@
--- Bits written at a cursor: the octets afterwards, and the moved place or the refusal's number.
+-- Bits written at a cursor: the octets afterwards, and the moved place or the refusal.
 use Rattle.std.specs.Prelude.{ℕ, zero, suc, ◌+◌, ◌^◌, ◌≡◌, Bool, false, cond, List, [], ◌∷◌, ◌++◌, length, take, drop, leb, ltb}
 use Rattle.bits.specs.PduParseError.{value_too_large, window_too_short}
 use Rattle.bits.specs.Bits.{Bits, number, digits, bits_of}
 use Rattle.bits.specs.Placed.{left, onward, Placed, placed, halted}
+use Rattle.bits.specs.declared.pdu_parse_error.PduParseErr.{PduParseErr}
 use Rattle.bits.specs.declared.bitbuffer.Cursor.{Cursor}
 use Rattle.bits.specs.declared.bitbuffer.Digits.{Digits}
 
@@ -23,7 +24,7 @@ pub record Written : Type 0 where
   pub octets : List ℕ
   pub answer : Placed Unit
 
-abbrev pub unwritten : ℕ → List ℕ → Written
+abbrev pub unwritten : PduParseErr → List ℕ → Written
 unwritten n os = record { octets = os; answer = halted n }
 
 -- WHAT WRITING BITS GIVES: they stand at the cursor, or nothing changes
@@ -56,7 +57,7 @@ room_for n len (placed z c) = leb n (left len c)
 room_for n len (halted k) = false
 
 -- a refusal; one that stands already stays
-abbrev pub refuse : ℕ → Placed Unit → Placed Unit
+abbrev pub refuse : PduParseErr → Placed Unit → Placed Unit
 refuse n (placed z c) = halted n
 refuse n (halted k) = halted k
 

@@ -1,11 +1,12 @@
 // A field of bits at a cursor: read, passed, written. Bit 0 is the top bit of octet 0.
-ghost use Rattle.std.specs.Prelude.{◌≡◌, ◌+◌, ◌-◌, ◌*◌, ◌%◌, ◌^◌, ◌≤◌, ◌<◌, length, leb, ltb};
+ghost use Rattle.std.specs.Prelude.{◌≡◌, ℕ, IfOk, ◌+◌, ◌-◌, ◌*◌, ◌%◌, ◌^◌, ◌≤◌, ◌<◌, length, leb, ltb};
+ghost use Rattle.std.proofs.Common.{rules};
 ghost use Rattle.bits.specs.Bits.{number, digits};
 ghost use Rattle.bits.specs.Reader.{word, pass};
-ghost use Rattle.bits.specs.Placed.{left, field_at, onward, at, as_field, as_field8, as_field32, as_moved, as_place, stored, refusal};
+ghost use Rattle.bits.specs.Placed.{left, field_at, onward, at, as_by, as_moved, as_place, stored};
 ghost use Rattle.bits.specs.Written.{splice, put_bits, write_field, written, next, Joined, room_for, refuse};
 
-use crate::pdu_parse_error::{BUFFER_ENDED, VALUE_TOO_LARGE, WINDOW_TOO_SHORT};
+use crate::pdu_parse_error::PduParseErr;
 
 // The bits from `at` up to `end` are left.
 #[derive(Clone, Copy)]
@@ -14,30 +15,57 @@ pub struct Cursor {
     pub end: usize,
 }
 
-// A field's value and the cursor behind it, or the refusal's number.
-#[derive(Clone, Copy)]
-pub enum Field {
-    Value(u64, Cursor),
-    Refused(u8),
+// A value and the cursor behind it, or the refusal.
+pub type Read<T> = Result<(T, Cursor), PduParseErr>;
+
+// The cursor behind what was passed or written, or the refusal.
+pub type Moved = Result<Cursor, PduParseErr>;
+
+// A number that a field is read as.
+pub trait Number: Copy {
+    ghost value: { Self → ℕ };
+    ghost BITS: { ℕ };
+    // How many bits it has at most.
+    const BITS: usize;
+
+    // The lowest of the bits of `v`, as many as it has.
+    fn of(v: u64) -> Self
+        ensures { value result ≡ v % 2 ^ BITS };
+
+    ghost at_most_64: { BITS ≤ 64 };
 }
 
-#[derive(Clone, Copy)]
-pub enum Field8 {
-    Value(u8, Cursor),
-    Refused(u8),
+impl Number for u8 {
+    ghost value = { λ v. v };
+    ghost BITS = { 8 };
+    ghost at_most_64 = { Prim.search rules };
+    const BITS: usize = 8;
+
+    fn of(v: u64) -> u8 {
+        (v % 256) as u8
+    }
 }
 
-#[derive(Clone, Copy)]
-pub enum Field32 {
-    Value(u32, Cursor),
-    Refused(u8),
+impl Number for u32 {
+    ghost value = { λ v. v };
+    ghost BITS = { 32 };
+    ghost at_most_64 = { Prim.search rules };
+    const BITS: usize = 32;
+
+    fn of(v: u64) -> u32 {
+        (v % 0x1_0000_0000) as u32
+    }
 }
 
-// The cursor behind what was passed or written, or the refusal's number.
-#[derive(Clone, Copy)]
-pub enum Moved {
-    To(Cursor),
-    Refused(u8),
+impl Number for u64 {
+    ghost value = { λ v. v };
+    ghost BITS = { 64 };
+    ghost at_most_64 = { Prim.search rules };
+    const BITS: usize = 64;
+
+    fn of(v: u64) -> u64 {
+        v
+    }
 }
 
 // Where what comes next is written: from `at` up to `end`; or nowhere, behind a refusal: `halt` is 0, or 256 and its number.
@@ -63,51 +91,6 @@ const TOO_WIDE: Digits = Digits {
     value: 0,
     width: 65,
 };
-
-impl Field {
-    // The refusal's number, 0 if there is none.
-    pub fn refusal(self) -> u8
-        ensures { result ≡ refusal (as_field self) }
-    {
-        match self {
-            Field::Value(_, _) => 0,
-            Field::Refused(n) => n,
-        }
-    }
-}
-
-impl Field8 {
-    pub fn refusal(self) -> u8
-        ensures { result ≡ refusal (as_field8 self) }
-    {
-        match self {
-            Field8::Value(_, _) => 0,
-            Field8::Refused(n) => n,
-        }
-    }
-}
-
-impl Field32 {
-    pub fn refusal(self) -> u8
-        ensures { result ≡ refusal (as_field32 self) }
-    {
-        match self {
-            Field32::Value(_, _) => 0,
-            Field32::Refused(n) => n,
-        }
-    }
-}
-
-impl Moved {
-    pub fn refusal(self) -> u8
-        ensures { result ≡ refusal (as_moved self) }
-    {
-        match self {
-            Moved::To(_) => 0,
-            Moved::Refused(n) => n,
-        }
-    }
-}
 
 fn wide(octet: u8) -> u64
     ensures { result ≡ octet }
@@ -256,45 +239,17 @@ impl Cursor {
     }
 
     // The next `width` bits as a number, most significant first, and the cursor behind them.
-    pub fn read(self, octets: &[u8], width: usize) -> Field
-        ensures { as_field result ≡ at (word 64 width) octets.now self }
+    pub fn read<T: Number>(self, octets: &[u8], width: usize) -> Read<T>
+        ensures { as_by T.value result ≡ at (word T.BITS width) octets.now self }
     {
-        if 64 < width {
-            return Field::Refused(BUFFER_ENDED);
+        if T::BITS < width {
+            return Err(PduParseErr::BufferEnded);
         }
         if self.holds(octets.len(), width) {
             let v = value(octets, self.at, width);
-            return Field::Value(v, self.past(width));
+            return Ok((T::of(v), self.past(width)));
         }
-        Field::Refused(BUFFER_ENDED)
-    }
-
-    // The same for at most 8 bits.
-    pub fn read_u8(self, octets: &[u8], width: usize) -> Field8
-        ensures { as_field8 result ≡ at (word 8 width) octets.now self }
-    {
-        if 8 < width {
-            return Field8::Refused(BUFFER_ENDED);
-        }
-        if self.holds(octets.len(), width) {
-            let v = value(octets, self.at, width);
-            return Field8::Value(v as u8, self.past(width));
-        }
-        Field8::Refused(BUFFER_ENDED)
-    }
-
-    // The same for at most 32 bits.
-    pub fn read_u32(self, octets: &[u8], width: usize) -> Field32
-        ensures { as_field32 result ≡ at (word 32 width) octets.now self }
-    {
-        if 32 < width {
-            return Field32::Refused(BUFFER_ENDED);
-        }
-        if self.holds(octets.len(), width) {
-            let v = value(octets, self.at, width);
-            return Field32::Value(v as u32, self.past(width));
-        }
-        Field32::Refused(BUFFER_ENDED)
+        Err(PduParseErr::BufferEnded)
     }
 
     // Past the next `width` bits, whatever they hold.
@@ -302,28 +257,28 @@ impl Cursor {
         ensures { as_moved result ≡ at (pass width) octets.now self }
     {
         if self.holds(octets.len(), width) {
-            return Moved::To(self.past(width));
+            return Ok(self.past(width));
         }
-        Moved::Refused(BUFFER_ENDED)
+        Err(PduParseErr::BufferEnded)
     }
 
-    // Writes `value` in the next `width` bits, every other bit kept: 0, or the number of a refusal, which changes nothing.
-    fn store(self, octets: &mut [u8], value: u64, width: usize) -> u8
+    // Writes `value` in the next `width` bits, every other bit kept; a refusal changes nothing.
+    fn store(self, octets: &mut [u8], value: u64, width: usize) -> Result<(), PduParseErr>
         ensures answer { stored width self result ≡ (write_field width value octets.old self).answer }
         ensures octets { octets.new ≡ (write_field width value octets.old self).octets }
-        ensures room { result ≡ 0 → self.at + width < 2 ^ 64 }
+        ensures room { IfOk result (λ z. self.at + width < 2 ^ 64) }
     {
         if 64 < width {
-            return VALUE_TOO_LARGE;
+            return Err(PduParseErr::ValueTooLarge);
         }
         if within(value, width) {
             if self.holds(octets.len(), width) {
                 put(octets, self.at, width, value);
-                return 0;
+                return Ok(());
             }
-            return WINDOW_TOO_SHORT;
+            return Err(PduParseErr::WindowTooShort);
         }
-        VALUE_TOO_LARGE
+        Err(PduParseErr::ValueTooLarge)
     }
 
     // The same, with the cursor behind them.
@@ -331,11 +286,8 @@ impl Cursor {
         ensures answer { as_moved result ≡ (write_field width value octets.old self).answer }
         ensures octets { octets.new ≡ (write_field width value octets.old self).octets }
     {
-        let n = self.store(octets, value, width);
-        if n == 0 {
-            return Moved::To(self.past(width));
-        }
-        Moved::Refused(n)
+        self.store(octets, value, width)?;
+        Ok(self.past(width))
     }
 }
 
@@ -388,15 +340,14 @@ impl Place {
                 at: self.at,
                 end: self.end,
             };
-            let n = c.store(octets, d.value, d.width);
-            if n == 0 {
-                return Place {
+            return match c.store(octets, d.value, d.width) {
+                Ok(()) => Place {
                     at: self.at + d.width,
                     end: self.end,
                     halt: 0,
-                };
-            }
-            return self.refuse(n);
+                },
+                Err(e) => self.refuse(e),
+            };
         }
         self
     }
@@ -415,15 +366,15 @@ impl Place {
         false
     }
 
-    // A refusal with a number; one that stands already stays as it is.
-    pub fn refuse(self, n: u8) -> Place
-        ensures { as_place result ≡ refuse n (as_place self) }
+    // A refusal; one that stands already stays as it is.
+    pub fn refuse(self, e: PduParseErr) -> Place
+        ensures { as_place result ≡ refuse e (as_place self) }
     {
         if self.halt == 0 {
             return Place {
                 at: self.at,
                 end: self.end,
-                halt: 256 + n as u64,
+                halt: 256 + e.number() as u64,
             };
         }
         self

@@ -1,20 +1,21 @@
 -- The bits of a group as the fields that they are written in: those up to the GSSI, and the rest.
-use Rattle.std.specs.Prelude.{ℕ, ◌+◌, ◌≤◌, ◌<◌, ◌≡◌, Bool, true, false, cond, length, take, get_or}
+use Rattle.std.specs.Prelude.{ℕ, ◌+◌, ◌≤◌, ◌<◌, ◌≡◌, Bool, true, false, cond, length, take, get_or, is_some}
 use Rattle.std.proofs.Common.{arith, ◌∙◌, length-append}
 use Rattle.std.proofs.Math.Path.{refl, ap₂}
-use Rattle.std.proofs.Math.Option.{Option, none, some}
+use Rattle.std.specs.Prelude.{Option, None, Some}
 use mathlib.Core.List.{List, [], ◌∷◌, ◌++◌, append_assoc, append-nil}
 use Rattle.bits.specs.Bits.{Bits, digits}
 use Rattle.bits.specs.BitsLaws.{length_digits}
 use Rattle.bits.specs.Written.{Written, joined}
 use Rattle.bits.specs.PutsLaws.{Puts, nothing, ◌⨾◌, joined-append}
-use Rattle.elements.specs.Numbers.{held, is_present, option_bits, flag_width}
-use Rattle.elements.specs.Groups.{Form, Address, form_of, type_of, address_type_width, address_width, address_bits, detachment_width, kind_of, group_bits, class_of_usage_width, lifetime_width, uplink_forms, uplink_class, uplink_detachment, uplink_address_in, uplink_bits, downlink_forms, attachment_bits, downlink_attachment, downlink_detachment, downlink_address_in, downlink_bits}
+use Rattle.elements.specs.Numbers.{held, option_bits, flag_width}
+use Rattle.elements.specs.Groups.{Form, form_of, type_of, address_type_width, address_width, address_bits, detachment_width, kind_of, group_bits, class_of_usage_width, lifetime_width, uplink_forms, uplink_class, uplink_detachment, uplink_address_in, uplink_bits, downlink_forms, attachment_bits, downlink_attachment, downlink_detachment, downlink_address_in, downlink_bits}
 use Rattle.elements.specs.Lists.{each}
 use Rattle.elements.proofs.EachLaws.{each_more}
 use Rattle.elements.specs.declared.group_identity_attachment.GroupIdentityAttachment.{GroupIdentityAttachment}
 use Rattle.elements.specs.declared.group_identity_uplink.GroupIdentityUplink.{GroupIdentityUplink}
 use Rattle.elements.specs.declared.group_identity_downlink.GroupIdentityDownlink.{GroupIdentityDownlink}
+use Rattle.elements.specs.declared.group_address.GroupAddress.{GroupAddress}
 
 -- an absent number has no digits
 pub option-digits : (p : Bool) (w v : ℕ) → digits (cond p w 0) v ≡ option_bits (digits w) (held p v)
@@ -41,52 +42,52 @@ module _ {A : Type 0} where
   same_eight f h t false false false = cc
 
 -- the address type, by the parts that are present
-pub uplink_type : (g e v : Bool) → cond v (cond g 3 (cond e 3 2)) (cond g (cond e 1 0) 3) ≡ type_of uplink_forms (record { gssi = g; extension = e; vgssi = v })
+pub uplink_type : (g e v : Bool) → cond v (cond g 3 (cond e 3 2)) (cond g (cond e 1 0) 3) ≡ type_of uplink_forms (record { gssi = g; address_extension = e; vgssi = v })
 unfolding type_of
-uplink_type = same_eight _ (λ g e v. type_of uplink_forms (record { gssi = g; extension = e; vgssi = v })) refl
+uplink_type = same_eight _ (λ g e v. type_of uplink_forms (record { gssi = g; address_extension = e; vgssi = v })) refl
 
 pub downlink_type : (g e v : Bool)
-    → cond v (cond g (cond e 3 4) (cond e 4 2)) (cond g (cond e 1 0) 4) ≡ type_of downlink_forms (record { gssi = g; extension = e; vgssi = v })
+    → cond v (cond g (cond e 3 4) (cond e 4 2)) (cond g (cond e 1 0) 4) ≡ type_of downlink_forms (record { gssi = g; address_extension = e; vgssi = v })
 unfolding type_of
-downlink_type = same_eight _ (λ g e v. type_of downlink_forms (record { gssi = g; extension = e; vgssi = v })) refl
+downlink_type = same_eight _ (λ g e v. type_of downlink_forms (record { gssi = g; address_extension = e; vgssi = v })) refl
 
-abbrev pub group_front : {T : Type 0} → (T → Bits) → List Form → Option T → Option ℕ → Address → Bits
+abbrev pub group_front : {T : Type 0} → (T → Bits) → List Form → Option T → Option ℕ → GroupAddress → Bits
 group_front bits forms t d a =
-    (((digits flag_width (kind_of (is_present t)) ++ option_bits bits t) ++ option_bits (digits detachment_width) d)
+    (((digits flag_width (kind_of (is_some t)) ++ option_bits bits t) ++ option_bits (digits detachment_width) d)
     ++ digits address_type_width (type_of forms (form_of a))) ++ option_bits (digits address_width) a.gssi
 
-abbrev pub group_back : Address → Bits
-group_back a = option_bits (digits address_width) a.extension ++ option_bits (digits address_width) a.vgssi
+abbrev pub group_back : GroupAddress → Bits
+group_back a = option_bits (digits address_width) a.address_extension ++ option_bits (digits address_width) a.vgssi
 
-pub group-parts : {T : Type 0} (bits : T → Bits) (forms : List Form) (t : Option T) (d : Option ℕ) (a : Address)
+pub group-parts : {T : Type 0} (bits : T → Bits) (forms : List Form) (t : Option T) (d : Option ℕ) (a : GroupAddress)
     → group_front bits forms t d a ++ group_back a ≡ group_bits bits forms t d a
 unfolding address_bits
 group-parts bits forms t d a = simp append_assoc
 
 -- each is at most 64 bits long
 option-length : (w : ℕ) (o : Option ℕ) → length (option_bits (digits w) o) ≤ w
-option-length w none = omega arith
-option-length w (some v) = rw (length_digits w v) (omega arith)
+option-length w None = omega arith
+option-length w (Some v) = rw (length_digits w v) (omega arith)
 
-group_front-fits : {T : Type 0} (bits : T → Bits) (forms : List Form) (t : Option T) (d : Option ℕ) (a : Address)
+group_front-fits : {T : Type 0} (bits : T → Bits) (forms : List Form) (t : Option T) (d : Option ℕ) (a : GroupAddress)
     → length (option_bits bits t) ≤ 5 → length (group_front bits forms t d a) ≤ 64
 group_front-fits bits forms t d a h =
-    let x : Bits = digits flag_width (kind_of (is_present t)) in
+    let x : Bits = digits flag_width (kind_of (is_some t)) in
     let y : Bits = option_bits (digits detachment_width) d in
     let z : Bits = digits address_type_width (type_of forms (form_of a)) in
     let g : Bits = option_bits (digits address_width) a.gssi in
-    let lx : length x ≡ 1 = length_digits flag_width (kind_of (is_present t)) in
+    let lx : length x ≡ 1 = length_digits flag_width (kind_of (is_some t)) in
     let ly = option-length detachment_width d in
     let lz : length z ≡ 2 = length_digits address_type_width (type_of forms (form_of a)) in
     let lg = option-length address_width a.gssi in
     rw (length-append (((x ++ option_bits bits t) ++ y) ++ z) g, length-append ((x ++ option_bits bits t) ++ y) z, length-append (x ++ option_bits bits t) y, length-append x (option_bits bits t))
     (omega arith)
 
-group_back-fits : (a : Address) → length (group_back a) ≤ 64
+group_back-fits : (a : GroupAddress) → length (group_back a) ≤ 64
 group_back-fits a =
-    let le = option-length address_width a.extension in
+    let le = option-length address_width a.address_extension in
     let lv = option-length address_width a.vgssi in
-    rw (length-append (option_bits (digits address_width) a.extension) (option_bits (digits address_width) a.vgssi)) (omega arith)
+    rw (length-append (option_bits (digits address_width) a.address_extension) (option_bits (digits address_width) a.vgssi)) (omega arith)
 
 -- ## uplinks
 
@@ -145,8 +146,8 @@ unfolding attachment_bits digits
 attachment-length t = refl
 
 attachment-most : (o : Option GroupIdentityAttachment) → length (option_bits attachment_bits o) ≤ 5
-attachment-most none = omega arith
-attachment-most (some t) = omega (arith, attachment-length t)
+attachment-most None = omega arith
+attachment-most (Some t) = omega (arith, attachment-length t)
 
 pub downlink_front-fits : (g : GroupIdentityDownlink) → length (downlink_front g) ≤ 64
 unfolding downlink_front

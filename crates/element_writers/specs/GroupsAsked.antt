@@ -1,17 +1,17 @@
 -- What questions 8, 10 and 11 find of a group and of a list, and how many bits there are; and the laws of asking one group after the other.
 use Prim.Native.Nat.{ℕ, zero, suc, ◌+◌, ◌<◌, min}
 use Rattle.std.proofs.Common.{arith, sym, length-append}
-use Rattle.std.specs.Prelude.{◌≡◌, Bool, cond, not, ◌&&◌, ◌||◌, length, take, get_or, leb}
+use Rattle.std.specs.Prelude.{◌≡◌, Bool, cond, not, ◌&&◌, ◌||◌, length, take, get_or, leb, is_some}
 use Rattle.std.proofs.Math.Path.{refl}
 use Rattle.std.proofs.Math.Bool.{true, false, and-true, and_assoc}
-use Rattle.std.proofs.Math.Option.{Option}
+use Rattle.std.specs.Prelude.{Option}
 use mathlib.Core.List.{List, [], ◌∷◌}
 use Rattle.std.proofs.Math.Dec.{ltb}
 use borrow.Author.Tests.{ltb-false}
 use Rattle.bits.specs.Bits.{Bits, digits}
 use Rattle.bits.specs.BitsLaws.{length_digits}
-use Rattle.elements.specs.Numbers.{held, is_present, option_bits, option_all, in_width, flag_width}
-use Rattle.elements.specs.Groups.{Form, Address, address_width, address_type_width, address_bits, form_of, type_of, listed_form, uplink_forms, downlink_forms, kind_of, detachment_width, lifetime_width, class_of_usage_width, attachment_bits, attachment_fits, group_bits}
+use Rattle.elements.specs.Numbers.{held, option_bits, option_all, in_width, flag_width}
+use Rattle.elements.specs.Groups.{Form, address_width, address_type_width, address_bits, form_of, type_of, listed_form, uplink_forms, downlink_forms, kind_of, detachment_width, lifetime_width, class_of_usage_width, attachment_bits, attachment_fits, group_bits}
 use Rattle.elements.specs.Generics.{entries_width}
 use Rattle.elements.proofs.EachLaws.{each_more, take-most}
 use Rattle.elements.specs.Lists.{Groups, downlinks, list_as, each, all, list_bits, list_held, list_fits, list_one, list_listed}
@@ -20,18 +20,18 @@ use Rattle.elements.specs.declared.group_address.GroupAddress.{GroupAddress}
 use Rattle.element_writers.specs.GroupParts.{same_eight, attachment-length}
 use Rattle.element_writers.specs.declared.group_address.GroupsAsked.{GroupsAsked}
 
-abbrev pub address_held : GroupAddress → Address
+abbrev pub address_held : GroupAddress → GroupAddress
 address_held a = record {
   gssi = held a.gssi_present a.gssi;
-  extension = held a.address_extension_present a.address_extension;
+  address_extension = held a.address_extension_present a.address_extension;
   vgssi = held a.vgssi_present a.vgssi;
 }
 
 -- how many bits the parts of an address have
-abbrev pub address_size : Address → ℕ
+abbrev pub address_size : GroupAddress → ℕ
 address_size a =
     length (option_bits (digits address_width) a.gssi)
-    + (length (option_bits (digits address_width) a.extension) + length (option_bits (digits address_width) a.vgssi))
+    + (length (option_bits (digits address_width) a.address_extension) + length (option_bits (digits address_width) a.vgssi))
 
 module _ {G L : Type 0} (k : Groups G L) where
   abbrev pub asked_of : G → GroupsAsked
@@ -71,13 +71,13 @@ pub option-size : (p : Bool) (w v : ℕ) → cond p w 0 ≡ length (option_bits 
 option-size true w v = sym (length_digits w v)
 option-size false w v = refl
 
-pub uplink_listed_lem : (g e v : Bool) → ((g && not v) || (not g && (not e && v))) ≡ listed_form uplink_forms (record { gssi = g; extension = e; vgssi = v })
+pub uplink_listed_lem : (g e v : Bool) → ((g && not v) || (not g && (not e && v))) ≡ listed_form uplink_forms (record { gssi = g; address_extension = e; vgssi = v })
 unfolding listed_form
-uplink_listed_lem = same_eight _ (λ g e v. listed_form uplink_forms (record { gssi = g; extension = e; vgssi = v })) refl
+uplink_listed_lem = same_eight _ (λ g e v. listed_form uplink_forms (record { gssi = g; address_extension = e; vgssi = v })) refl
 
-pub downlink_listed_lem : (g e v : Bool) → ((g && (e || not v)) || (not g && (not e && v))) ≡ listed_form downlink_forms (record { gssi = g; extension = e; vgssi = v })
+pub downlink_listed_lem : (g e v : Bool) → ((g && (e || not v)) || (not g && (not e && v))) ≡ listed_form downlink_forms (record { gssi = g; address_extension = e; vgssi = v })
 unfolding listed_form
-downlink_listed_lem = same_eight _ (λ g e v. listed_form downlink_forms (record { gssi = g; extension = e; vgssi = v })) refl
+downlink_listed_lem = same_eight _ (λ g e v. listed_form downlink_forms (record { gssi = g; address_extension = e; vgssi = v })) refl
 
 pub attachment_fits_lem : (p : Bool) (t : GroupIdentityAttachment)
     → (option_all (in_width lifetime_width) (held p t.group_identity_attachment_lifetime) && option_all (in_width class_of_usage_width) (held p t.class_of_usage))
@@ -91,13 +91,13 @@ attachment-size true t = sym (attachment-length t)
 attachment-size false t = refl
 
 -- the bits of a group
-pub group-size : {T : Type 0} (bits : T → Bits) (forms : List Form) (t : Option T) (d : Option ℕ) (a : Address)
+pub group-size : {T : Type 0} (bits : T → Bits) (forms : List Form) (t : Option T) (d : Option ℕ) (a : GroupAddress)
     → 3 + (length (option_bits bits t) + (length (option_bits (digits detachment_width) d) + address_size a)) ≡ length (group_bits bits forms t d a)
 unfolding address_bits
 group-size bits forms t d a =
-    let x : Bits = digits flag_width (kind_of (is_present t)) in
+    let x : Bits = digits flag_width (kind_of (is_some t)) in
     let z : Bits = digits address_type_width (type_of forms (form_of a)) in
-    let lx : length x ≡ 1 = length_digits flag_width (kind_of (is_present t)) in
+    let lx : length x ≡ 1 = length_digits flag_width (kind_of (is_some t)) in
     let lz : length z ≡ 2 = length_digits address_type_width (type_of forms (form_of a)) in
     sym (simp length-append (omega arith))
 

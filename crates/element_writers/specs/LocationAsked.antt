@@ -3,7 +3,7 @@ use Rattle.std.specs.Prelude.{ℕ, ◌+◌, ◌≡◌, Bool, cond, ◌&&◌, Lis
 use Rattle.std.proofs.Math.Path.{refl}
 use Rattle.std.proofs.Common.{ap}
 use Rattle.std.proofs.Math.Bool.{true, false}
-use Rattle.std.proofs.Math.Option.{Option, some}
+use Rattle.std.specs.Prelude.{Option, Some}
 use Rattle.bits.specs.Bits.{Bits, digits}
 use Rattle.bits.specs.Written.{joined}
 use Rattle.elements.specs.Table.{length_width}
@@ -77,7 +77,7 @@ module _ {G L D : Type 0} (k : Groups G L) (parts : G → List Bits) (i : ℕ) (
 
   -- one that is there
   located_asked : (fits : D → Bool) (own : Bool) (d : D) {a : GroupsAsked} → (own && list_fits k (list d)) ≡ fits d → a ≡ asked_list k (list d)
-      → location_of own (k.present (list d)) a ≡ asked_location k fits structure_in list (some d)
+      → location_of own (k.present (list d)) a ≡ asked_location k fits structure_in list (Some d)
   located_asked fits own d {a} f e = let n = structure-length k parts i same (list d) (x d) (y d) (ap (λ (x : GroupsAsked). x.size) e) in rw (n, e, f)
 
   -- THE PARTS are the element's bits

@@ -1,5 +1,5 @@
 -- What questions 8, 12 and 13 find of energy saving information that may be absent.
-use Rattle.std.proofs.Math.Option.{Option}
+use Rattle.std.specs.Prelude.{Option}
 use Rattle.elements.specs.Numbers.{option_all}
 use Rattle.elements.specs.EnergySaving.{saving_fits, alive_has_none, others_have_both}
 use Rattle.elements.specs.declared.energy_saving_information.EnergySavingInformation.{EnergySavingInformation}

@@ -1,6 +1,5 @@
 // Class of MS (EN 300 392-2, clause 16.10.5): 24 bits, top bit first.
 ghost use Rattle.std.specs.Prelude.{◌≡◌, ◌<◌};
-ghost use Rattle.std.proofs.Math.Option.{some};
 ghost use Rattle.bits.specs.Written.{Holds};
 ghost use Rattle.elements.specs.Numbers.{type2_bits, held, option_all};
 ghost use Rattle.elements.specs.ClassOfMs.{class_fields, class_bits, class_fits};
@@ -45,7 +44,7 @@ fn fields_of(m: ClassOfMs) -> [u8; 22]
 
 // P-bit 1, and the fields.
 fn present_class(m: ClassOfMs) -> Digits
-    ensures { Holds result (type2_bits class_bits (some m)) }
+    ensures { Holds result (type2_bits class_bits (Some m)) }
 {
     let values = fields_of(m);
     let mut d = NO_DIGITS.then(1, 1);

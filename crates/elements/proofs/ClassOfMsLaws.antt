@@ -19,6 +19,7 @@ use Rattle.elements.specs.Numbers.{in_width}
 use Rattle.elements.proofs.NumbersLaws.{both, number-back}
 use Rattle.elements.specs.ClassOfMs.{sum, split, numbers, numbers_bits, numbers_fit, class_widths, class_fields, class_of, class_of_ms_element, class_bits, class_fits}
 use Rattle.elements.specs.declared.class_of_ms.ClassOfMs.{ClassOfMs}
+use Rattle.bits.specs.declared.pdu_parse_error.PduParseErr.{PduParseErr}
 
 -- ## local, and read back
 
@@ -162,7 +163,7 @@ module _ {os : List ℕ} {c : Cursor} where
   pub class-there : {v : ℕ} {k : Cursor} → Gives (field 24) os c (placed v k) → Gives class_of_ms_element os c (placed (class_of (split class_widths v)) k)
   class-there e = alike _ (class_word_lem (window os c)) (step (λ v. got (class_of (split class_widths v))) e (local_tail (field-local 24)) done)
 
-  pub class-ended : {n : ℕ} → Gives (field 24) os c (halted n) → Gives class_of_ms_element os c (halted n)
+  pub class-ended : {n : PduParseErr} → Gives (field 24) os c (halted n) → Gives class_of_ms_element os c (halted n)
   class-ended e = alike _ (class_word_lem (window os c)) (stop (λ v. got (class_of (split class_widths v))) e)
 
 -- the fields of a word

@@ -5,7 +5,7 @@ use native.Mathlib.Omega.{arith}
 use Rattle.std.specs.Prelude.{◌≡◌, Bool, eqb}
 use Rattle.std.proofs.Math.Path.{refl, ap}
 use Rattle.std.proofs.Math.Bool.{true, false, cond}
-use Rattle.std.proofs.Math.Option.{Option, none, some}
+use Rattle.std.specs.Prelude.{Option, None, Some}
 use mathlib.Core.List.{List, [], ◌∷◌, ◌++◌}
 use Rattle.std.proofs.Math.ListN.{length, length-append}
 use Rattle.bits.specs.Bits.{Bits}
@@ -13,11 +13,12 @@ use Rattle.bits.specs.Reader.{Answer, got, refused, Reader, then, ◌>>=◌, Loc
 use Rattle.bits.specs.ReaderLaws.{zero_one, refused-got, split-then, Agree, both, neither, agree, Passes}
 use Rattle.elements.specs.Table.{Look, ends, look, header, closing, whole, Piece, pieces, walk, unlisted, cut, total, Counted, counted, element, slot_if, slot, skip, is_listed, scan}
 use Rattle.elements.proofs.TableLaws.{slot_cases, closing-ends, closing-opens, whole-local, whole-identifier, whole-stands, Stands, stands-looks, Halts, at_end, at-stop, pieces-halts, pieces-on, More, pieces-got, listed-first, listed_later, element-local}
+use Rattle.bits.specs.declared.pdu_parse_error.PduParseErr.{PduParseErr}
 
 -- ALIKE: both answers give the same, the first with n skipped and the second with none; or both refuse (with any numbers)
 pub data Alike {A : Type 0} (n : ℕ) (x y : Answer (Counted A)) : Type 0 where
   give : (v : A) (rest : Bits) → x ≡ got (counted n v) rest → y ≡ got (counted 0 v) rest → Alike n x y
-  refuse : (j k : ℕ) → x ≡ refused j → y ≡ refused k → Alike n x y
+  refuse : (j k : PduParseErr) → x ≡ refused j → y ≡ refused k → Alike n x y
 
 -- ## the walk and the cut
 
@@ -189,7 +190,7 @@ module _ {S A : Type 0} (identifier : S → ℕ) (content : S → ℕ → Reader
       slot-cut : (k : ℕ) (ps : List Piece) (bs rest : Bits) → walk bs ≡ got ps rest → Settled listed ps
           → AlikeBehind k (length (unlisted listed ps)) (slot identifier content s bs) (slot identifier content s (cut listed ps rest))
       unfolding cut unlisted
-      slot-cut k [] bs rest e t = let (l, r) = walk-nil bs e in rw r (rw l (one_more k none bs bs (rw r at (others [] bs rest e))))
+      slot-cut k [] bs rest e t = let (l, r) = walk-nil bs e in rw r (rw l (one_more k None bs bs (rw r at (others [] bs rest e))))
       slot-cut k (p ∷ ps) bs rest e t =
           let m = walk-cons bs e in
           rw t (rw (stands-looks m.stands, m.stands.element.looks c) (test (eqb p.identifier (identifier s)) m))
@@ -199,7 +200,7 @@ module _ {S A : Type 0} (identifier : S → ℕ) (content : S → ℕ → Reader
 
           test : (b : Bool) → More (λ i. false) bs p ps rest
               → AlikeBehind k (length (unlisted listed ps)) (slot_if identifier content s b bs) (slot_if identifier content s b (p.bits ++ c))
-          test false m = one_more k none bs (p.bits ++ c) (rw t at (others (p ∷ ps) bs rest e))
+          test false m = one_more k None bs (p.bits ++ c) (rw t at (others (p ∷ ps) bs rest e))
           test true m = rw m.stands.split (read (agree (element-local identifier content local s) p.bits uses m.mid c))
             where
               uses : (zs : Bits) (a : A) (r : Bits) → element identifier content s (p.bits ++ zs) ≡ got a r → r ≡ zs
@@ -207,7 +208,7 @@ module _ {S A : Type 0} (identifier : S → ℕ) (content : S → ℕ → Reader
 
               read : Agree (element identifier content s (p.bits ++ m.mid)) (element identifier content s (p.bits ++ c)) m.mid c
                   → AlikeBehind k (length (unlisted listed ps)) (slot_if identifier content s true (p.bits ++ m.mid)) (slot_if identifier content s true (p.bits ++ c))
-              read (both a x y) = rw (x, y) (one_more k (some a) m.mid c (others ps m.mid rest m.others))
+              read (both a x y) = rw (x, y) (one_more k (Some a) m.mid c (others ps m.mid rest m.others))
               read (neither i j x y) = refuse i j (rw x) (rw y)
 
     -- THE THEOREM

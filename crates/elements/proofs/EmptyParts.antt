@@ -2,7 +2,7 @@
 use Rattle.std.specs.Prelude.{ℕ, zero, suc, ◌≡◌, Bool, true, false, cond, not, set, replicate, eqb}
 use Rattle.std.proofs.Math.Path.{refl}
 use Rattle.std.proofs.Common.{sym, ap, ◌∙◌}
-use Rattle.std.proofs.Math.Option.{none}
+use Rattle.std.specs.Prelude.{None}
 use mathlib.Core.List.{List, [], ◌∷◌, map}
 use Rattle.std.proofs.lemmas.List.Edits.{sets}
 use Rattle.std.proofs.lemmas.Bool.{not-true}
@@ -17,7 +17,7 @@ use Rattle.elements.proofs.NumbersLaws.{never, both, neither}
 use Rattle.elements.specs.Table.{Look, outside, ends, opens, look, counted, closing, is_listed}
 use Rattle.elements.proofs.TableLaws.{ends-opens, Halts, at_end, at-stop, skip-halts, closing-ends, closing-local}
 use Rattle.elements.specs.Kinds.{Slot, identifier_of}
-use Rattle.elements.specs.Rows.{row_of, is_type4_row, generic_in, generic_slot, generics, no_generic, no_generics, part, elsewhere}
+use Rattle.elements.specs.Rows.{row_of, is_type4, generic_in, generic_slot, generics, no_generic, no_generics, part, elsewhere}
 use Rattle.elements.specs.declared.typed_pdu_fields.Row.{Row}
 use Rattle.elements.specs.declared.typed_pdu_fields.Slots.{Slots}
 
@@ -35,8 +35,8 @@ absent-put : (rs : List Row) (from : ℕ) → sets no_generics from (map (λ r. 
 absent-put [] from = refl
 absent-put (r ∷ rs) from = ap (λ gs. sets gs (suc from) (map (λ r. no_generic) rs)) (same-put no_generic 8 from) ∙ absent-put rs (suc from)
 
-absent_in : (r : Row) → generic_in r none ≡ no_generic
-absent_in r = go (is_type4_row r)
+absent_in : (r : Row) → generic_in r None ≡ no_generic
+absent_in r = go (is_type4 r.kind)
   where
     go : (four : Bool) → cond four no_generic no_generic ≡ no_generic
     go true = refl

@@ -1,7 +1,7 @@
 -- Laws of the energy saving information.
-use Rattle.std.specs.Prelude.{ℕ, ◌+◌, ◌^◌, ◌≡◌, refl, Bool, true, false, not, ◌&&◌, ◌||◌, List, ◌++◌, eqb}
+use Rattle.std.specs.Prelude.{ℕ, ◌+◌, ◌^◌, ◌≡◌, refl, Bool, true, false, not, ◌&&◌, ◌||◌, List, ◌++◌, eqb, is_some}
 use Rattle.std.proofs.Common.{sym, append_assoc, pow_pos, lt-ltb}
-use Rattle.std.proofs.Math.Option.{Option, none, some}
+use Rattle.std.specs.Prelude.{Option, None, Some}
 use Rattle.std.proofs.lemmas.Bool.{not-true}
 use Rattle.bits.specs.Bits.{Bits}
 use Rattle.bits.specs.Reader.{got, ◌>>=◌, field, Local}
@@ -10,10 +10,11 @@ use Rattle.bits.specs.Placed.{Placed, placed, halted}
 use Rattle.bits.specs.PlacedLaws.{Gives, step, stop}
 use Rattle.bits.specs.declared.bitbuffer.Cursor.{Cursor}
 use Rattle.elements.proofs.PlacedOptional.{ends}
-use Rattle.elements.specs.Numbers.{is_present, value_or, held, option_all, in_width}
+use Rattle.elements.specs.Numbers.{value_or, held, option_all, in_width}
 use Rattle.elements.proofs.NumbersLaws.{both, number-back, held-option, same_u8, same_u8_self}
 use Rattle.elements.specs.EnergySaving.{saving_mode_width, frame_width, multiframe_width, stay_alive, saving_of, energy_saving, frame_in, multiframe_in, saving_bits, saving_fits, alive_has_none, others_have_both, saving_normal, SameSaving}
 use Rattle.elements.specs.declared.energy_saving_information.EnergySavingInformation.{EnergySavingInformation}
+use Rattle.bits.specs.declared.pdu_parse_error.PduParseErr.{PduParseErr}
 
 pub saving-local : Local energy_saving
 unfolding energy_saving
@@ -33,7 +34,7 @@ abbrev number_of : ℕ → ℕ → Option ℕ
 number_of m v = held (not (eqb m stay_alive)) v
 
 module _ {os : List ℕ} {c : Cursor} {m : ℕ} {c₁ : Cursor} (e₁ : Gives (field saving_mode_width) os c (placed m c₁)) where
-  pub no_frame : {k : ℕ} → Gives (field frame_width) os c₁ (halted k) → Gives energy_saving os c (halted k)
+  pub no_frame : {k : PduParseErr} → Gives (field frame_width) os c₁ (halted k) → Gives energy_saving os c (halted k)
   unfolding energy_saving
   no_frame e = step _ e₁ (search local·rules) (stop _ e)
 
@@ -42,7 +43,7 @@ module _ {os : List ℕ} {c : Cursor} {m : ℕ} {c₁ : Cursor} (e₁ : Gives (f
     unfolding energy_saving
     behind-frame g = step _ e₁ (search local·rules) (step _ e₂ (search local·rules) g)
 
-    pub no_multiframe : {k : ℕ} → Gives (field multiframe_width) os c₂ (halted k) → Gives energy_saving os c (halted k)
+    pub no_multiframe : {k : PduParseErr} → Gives (field multiframe_width) os c₂ (halted k) → Gives energy_saving os c (halted k)
     no_multiframe e = behind-frame (stop _ e)
 
     pub whole-saving : {n : ℕ} {c₃ : Cursor} {s : EnergySavingInformation} → Gives (field multiframe_width) os c₂ (placed n c₃)
@@ -57,13 +58,13 @@ there true p q h k = let x = both (not p) (not q) h in (sym (not-true p x.0), sy
 there false p q h k = let x = both p q k in (sym x.0, sym x.1)
 
 -- a number that is there exactly where the test holds
-held-there : (b : Bool) (o : Option ℕ) → b ≡ is_present o → held b (value_or 0 o) ≡ o
+held-there : (b : Bool) (o : Option ℕ) → b ≡ is_some o → held b (value_or 0 o) ≡ o
 held-there b o e = rw e (held-option 0 o)
 
 -- the 0 for what is absent fits any width
 value-fits : (w : ℕ) (o : Option ℕ) → option_all (in_width w) o ≡ true → in_width w (value_or 0 o) ≡ true
-value-fits w none h = lt-ltb 0 (2 ^ w) (pow_pos w)
-value-fits w (some v) h = h
+value-fits w None h = lt-ltb 0 (2 ^ w) (pow_pos w)
+value-fits w (Some v) h = h
 
 pub saving-back : (e : EnergySavingInformation) → saving_fits e ≡ true → alive_has_none e ≡ true → others_have_both e ≡ true → (rest : Bits)
     → energy_saving (saving_bits e ++ rest) ≡ got (saving_normal e) rest
@@ -72,7 +73,7 @@ saving-back e f none-alive both-else rest =
     let m : ℕ = e.energy_saving_mode in
     let x = both (in_width saving_mode_width m) _ f in
     let y = both (option_all (in_width frame_width) (frame_in e)) _ x.1 in
-    let t = there (eqb m stay_alive) (is_present (frame_in e)) (is_present (multiframe_in e)) none-alive both-else in
+    let t = there (eqb m stay_alive) (is_some (frame_in e)) (is_some (multiframe_in e)) none-alive both-else in
     simp append_assoc
     (rw (number-back saving_mode_width m x.0 _)
     (rw (number-back frame_width (value_or 0 (frame_in e)) (value-fits frame_width (frame_in e) y.0) _)

@@ -1,20 +1,21 @@
 -- Laws of groups.
-use Rattle.std.specs.Prelude.{ℕ, suc, ◌+◌, ◌/◌, ◌%◌, ◌^◌, ◌≤◌, ◌<◌, ◌≡◌, refl, Bool, true, false, cond, ◌||◌, List, [], ◌∷◌, ◌++◌, length, get_or, eqb}
+use Rattle.std.specs.Prelude.{ℕ, suc, ◌+◌, ◌/◌, ◌%◌, ◌^◌, ◌≤◌, ◌<◌, ◌≡◌, refl, Bool, true, false, cond, ◌||◌, List, [], ◌∷◌, ◌++◌, length, get_or, eqb, is_some}
 use Rattle.std.proofs.Common.{div-one, one-add, arith, sym, ◌∙◌, append_assoc, lit<, lit≤}
 use Rattle.std.specs.Bool.{beq}
-use Rattle.std.proofs.Math.Option.{Option, none, some}
+use Rattle.std.specs.Prelude.{Option, None, Some}
 use Rattle.bits.specs.Bits.{Bits, digits}
 use Rattle.bits.specs.Reader.{Reader, got, ◌>>=◌, field, optional, Local}
 use Rattle.bits.specs.ReaderLaws.{then_same, local·rules, field_back, split-then}
-use Rattle.elements.specs.Numbers.{is_present, value_or, held, optional_number, option_all, in_width, flag_width, Same}
+use Rattle.elements.specs.Numbers.{value_or, held, optional_number, option_all, in_width, flag_width, Same}
 use Rattle.elements.proofs.NumbersLaws.{never, both, optional-same-back, number-back, optional_number-back, held-option, same-held, same_self}
 use Rattle.elements.specs.ClassOfMs.{numbers}
 use Rattle.elements.proofs.ClassOfMsLaws.{numbers_as, numbers-first}
 use Rattle.elements.specs.ClassOfMs.{sum, split}
-use Rattle.elements.specs.Groups.{address_type_width, address_width, Form, uplink_forms, downlink_forms, form_at, same_form, type_of, listed_form, Address, address_of, form_of, address_bits, address_fits, typed_address, uplink_address, downlink_address, detachment_width, class_of_usage_width, attachment, detachment, kind_of, differ, group_with, group_bits, group_fits, uplink_of, uplink, uplink_class, uplink_detachment, uplink_address_in, uplink_bits, uplink_fits, uplink_one, uplink_listed, uplink_normal, SameUplink, lifetime_width, attachment_info, no_attachment, downlink_of, downlink, downlink_attachment, downlink_detachment, downlink_address_in, attachment_bits, attachment_fits, downlink_bits, downlink_fits, downlink_one, downlink_listed, downlink_normal, SameDownlink}
+use Rattle.elements.specs.Groups.{address_type_width, address_width, Form, uplink_forms, downlink_forms, form_at, same_form, type_of, listed_form, address_of, form_of, address_bits, address_fits, typed_address, uplink_address, downlink_address, detachment_width, class_of_usage_width, attachment, detachment, kind_of, differ, group_with, group_bits, group_fits, uplink_of, uplink, uplink_class, uplink_detachment, uplink_address_in, uplink_bits, uplink_fits, uplink_one, uplink_listed, uplink_normal, SameUplink, lifetime_width, attachment_info, no_attachment, downlink_of, downlink, downlink_attachment, downlink_detachment, downlink_address_in, attachment_bits, attachment_fits, downlink_bits, downlink_fits, downlink_one, downlink_listed, downlink_normal, SameDownlink}
 use Rattle.elements.specs.declared.group_identity_attachment.GroupIdentityAttachment.{GroupIdentityAttachment}
 use Rattle.elements.specs.declared.group_identity_uplink.GroupIdentityUplink.{GroupIdentityUplink}
 use Rattle.elements.specs.declared.group_identity_downlink.GroupIdentityDownlink.{GroupIdentityDownlink}
+use Rattle.elements.specs.declared.group_address.GroupAddress.{GroupAddress}
 
 -- ## local
 
@@ -60,10 +61,10 @@ beq_true false false e = refl
 same_form_lem : (f h : Form) → same_form f h ≡ true → f ≡ h
 same_form_lem f h e =
     let x = both (beq f.gssi h.gssi) _ e in
-    let y = both (beq f.extension h.extension) _ x.1 in
+    let y = both (beq f.address_extension h.address_extension) _ x.1 in
     λ i. record {
       gssi = beq_true f.gssi h.gssi x.0 i;
-      extension = beq_true f.extension h.extension y.0 i;
+      address_extension = beq_true f.address_extension h.address_extension y.0 i;
       vgssi = beq_true f.vgssi h.vgssi y.1 i;
     }
 
@@ -89,19 +90,19 @@ type_lt (f ∷ fs) h e = go (same_form f h) e (type_lt fs h)
     go false e more = omega (arith, more e)
 
 -- an address of a listed form is read back
-pub address-back : (forms : List Form) → length forms ≤ 4 → (a : Address) → listed_form forms (form_of a) ≡ true → address_fits a ≡ true → (rest : Bits)
+pub address-back : (forms : List Form) → length forms ≤ 4 → (a : GroupAddress) → listed_form forms (form_of a) ≡ true → address_fits a ≡ true → (rest : Bits)
     → typed_address forms (address_bits forms a ++ rest) ≡ got a rest
 unfolding address_of address_bits address_fits
 address-back forms few a listed fits rest =
     let t : ℕ = type_of forms (form_of a) in
     let small : t < 2 ^ address_type_width = omega (arith, type_lt forms (form_of a) listed) in
     let x = both (option_all (in_width address_width) a.gssi) _ fits in
-    let y = both (option_all (in_width address_width) a.extension) _ x.1 in
+    let y = both (option_all (in_width address_width) a.address_extension) _ x.1 in
     simp append_assoc
     (rw (field_back address_type_width t _ small, form_type forms (form_of a) listed)
-    (rw (optional_number-back address_width (is_present a.gssi) a.gssi refl x.0 _)
-    (rw (optional_number-back address_width (is_present a.extension) a.extension refl y.0 _)
-    (rw (optional_number-back address_width (is_present a.vgssi) a.vgssi refl y.1 _)))))
+    (rw (optional_number-back address_width (is_some a.gssi) a.gssi refl x.0 _)
+    (rw (optional_number-back address_width (is_some a.address_extension) a.address_extension refl y.0 _)
+    (rw (optional_number-back address_width (is_some a.vgssi) a.vgssi refl y.1 _)))))
 
 -- ## attachment and detachment
 
@@ -120,42 +121,42 @@ kind_lt true = lit< tt
 kind_lt false = lit< tt
 
 -- a group of either direction, by what an attachment says and by the forms of its addresses
-module _ {T G : Type 0} (info : Reader T) (forms : List Form) (group_of : Option T → Option ℕ → Address → G) where
+module _ {T G : Type 0} (info : Reader T) (forms : List Form) (group_of : Option T → Option ℕ → GroupAddress → G) where
   group_back_lem : (bits : T → Bits) (fits : T → Bool) → ((t : T) → fits t ≡ true → (rest : Bits) → info (bits t ++ rest) ≡ got t rest)
-      → length forms ≤ 4 → (t : Option T) (d : Option ℕ) (a : Address)
-      → group_fits fits t d a ≡ true → differ (is_present t) (is_present d) ≡ true → listed_form forms (form_of a) ≡ true → (rest : Bits)
+      → length forms ≤ 4 → (t : Option T) (d : Option ℕ) (a : GroupAddress)
+      → group_fits fits t d a ≡ true → differ (is_some t) (is_some d) ≡ true → listed_form forms (form_of a) ≡ true → (rest : Bits)
       → group_with info (typed_address forms) group_of (group_bits bits forms t d a ++ rest) ≡ got (group_of t d a) rest
   group_back_lem bits fits back few t d a f one listed rest =
       let x = both (option_all fits t) _ f in
       let y = both (option_all (in_width detachment_width) d) _ x.1 in
       simp append_assoc
-      (rw (field_back flag_width (kind_of (is_present t)) _ (kind_lt (is_present t)))
-      (rw (optional-same-back info bits fits back _ t (kind_attach (is_present t)) x.0 _)
-      (rw (optional_number-back detachment_width _ d (kind_detach (is_present t) (is_present d) one) y.0 _)
+      (rw (field_back flag_width (kind_of (is_some t)) _ (kind_lt (is_some t)))
+      (rw (optional-same-back info bits fits back _ t (kind_attach (is_some t)) x.0 _)
+      (rw (optional_number-back detachment_width _ d (kind_detach (is_some t) (is_some d) one) y.0 _)
       (rw (address-back forms few a listed y.1 rest)))))
 
   -- what is read is its own normal form if each group that is made of parts is
-  group-own : (normal : G → G) → ((t : Option T) (d : Option ℕ) (a : Address) → normal (group_of t d a) ≡ group_of t d a)
+  group-own : (normal : G → G) → ((t : Option T) (d : Option ℕ) (a : GroupAddress) → normal (group_of t d a) ≡ group_of t d a)
       → (bs : Bits) {g : G} {rest : Bits} → group_with info (typed_address forms) group_of bs ≡ got g rest → normal g ≡ g
   group-own normal own bs {g} e =
       split-then (field flag_width bs) _ e (λ k b₁ p₁ q₁.
-      split-then (optional some none (eqb k attachment) info b₁) _ q₁ (λ t b₂ p₂ q₂.
+      split-then (optional Some None (eqb k attachment) info b₁) _ q₁ (λ t b₂ p₂ q₂.
       split-then (optional_number (eqb k detachment) detachment_width b₂) _ q₂ (λ d b₃ p₃ q₃.
       split-then (typed_address forms b₃) _ q₃ (λ a b₄ p₄ q₄.
       let made : group_of t d a ≡ g = cc in rw (← made) (own t d a)))))
 
 -- an address that is held in presences and values
-held-address : (a : Address) → record {
-  gssi = held (is_present a.gssi) (value_or 0 a.gssi);
-  extension = held (is_present a.extension) (value_or 0 a.extension);
-  vgssi = held (is_present a.vgssi) (value_or 0 a.vgssi);
+held-address : (a : GroupAddress) → record {
+  gssi = held (is_some a.gssi) (value_or 0 a.gssi);
+  address_extension = held (is_some a.address_extension) (value_or 0 a.address_extension);
+  vgssi = held (is_some a.vgssi) (value_or 0 a.vgssi);
 } ≡ a
-held-address a = λ i. record { gssi = held-option 0 a.gssi i; extension = held-option 0 a.extension i; vgssi = held-option 0 a.vgssi i }
+held-address a = λ i. record { gssi = held-option 0 a.gssi i; address_extension = held-option 0 a.address_extension i; vgssi = held-option 0 a.vgssi i }
 
 -- two addresses of which what is present is the same
 same_address : {p q r p' q' r' : Bool} {a b c a' b' c' : ℕ} → Same ◌≡◌ p a p' a' → Same ◌≡◌ q b q' b' → Same ◌≡◌ r c r' c'
-    → ◌≡◌ {A = Address} (record { gssi = held p a; extension = held q b; vgssi = held r c }) (record { gssi = held p' a'; extension = held q' b'; vgssi = held r' c' })
-same_address g e v = λ i. record { gssi = same-held g i; extension = same-held e i; vgssi = same-held v i }
+    → ◌≡◌ {A = GroupAddress} (record { gssi = held p a; address_extension = held q b; vgssi = held r c }) (record { gssi = held p' a'; address_extension = held q' b'; vgssi = held r' c' })
+same_address g e v = λ i. record { gssi = same-held g i; address_extension = same-held e i; vgssi = same-held v i }
 
 -- ## the uplink group
 
@@ -168,7 +169,7 @@ uplink_back_lem g =
 
 pub uplink-same : {g h : GroupIdentityUplink} → SameUplink g h → uplink_normal g ≡ uplink_normal h
 unfolding uplink_normal
-uplink-same s = λ i. uplink_of (same-held s.class i) (same-held s.detachment i) (same_address s.gssi s.extension s.vgssi i)
+uplink-same s = λ i. uplink_of (same-held s.class i) (same-held s.detachment i) (same_address s.gssi s.address_extension s.vgssi i)
 
 pub uplink_normal-same : (g : GroupIdentityUplink) → SameUplink g (uplink_normal g)
 unfolding uplink_normal
@@ -176,7 +177,7 @@ uplink_normal-same g = record {
   class = same_self 0 g.class_of_usage_present g.class_of_usage;
   detachment = same_self 0 g.group_identity_detachment_uplink_present g.group_identity_detachment_uplink;
   gssi = same_self 0 g.gssi_present g.gssi;
-  extension = same_self 0 g.address_extension_present g.address_extension;
+  address_extension = same_self 0 g.address_extension_present g.address_extension;
   vgssi = same_self 0 g.vgssi_present g.vgssi;
 }
 
@@ -203,7 +204,7 @@ downlink_back_lem g =
 
 pub downlink-same : {g h : GroupIdentityDownlink} → SameDownlink g h → downlink_normal g ≡ downlink_normal h
 unfolding downlink_normal
-downlink-same s = λ i. downlink_of (same-held s.attachment i) (same-held s.detachment i) (same_address s.gssi s.extension s.vgssi i)
+downlink-same s = λ i. downlink_of (same-held s.attachment i) (same-held s.detachment i) (same_address s.gssi s.address_extension s.vgssi i)
 
 pub downlink_normal-same : (g : GroupIdentityDownlink) → SameDownlink g (downlink_normal g)
 unfolding downlink_normal
@@ -211,7 +212,7 @@ downlink_normal-same g = record {
   attachment = same_self no_attachment g.group_identity_attachment_present g.group_identity_attachment;
   detachment = same_self 0 g.group_identity_detachment_uplink_present g.group_identity_detachment_uplink;
   gssi = same_self 0 g.gssi_present g.gssi;
-  extension = same_self 0 g.address_extension_present g.address_extension;
+  address_extension = same_self 0 g.address_extension_present g.address_extension;
   vgssi = same_self 0 g.vgssi_present g.vgssi;
 }
 

@@ -1,14 +1,14 @@
 -- Laws of the kinds of outer elements: local, of their declared length, read back, and their own normal form when read.
-use Rattle.std.specs.Prelude.{ℕ, ◌^◌, ◌≤◌, ◌<◌, ◌≡◌, refl, Bool, true, false, ◌++◌, length, leb}
+use Rattle.std.specs.Prelude.{ℕ, ◌^◌, ◌≤◌, ◌<◌, ◌≡◌, refl, Bool, true, false, ◌++◌, length, leb, option_map}
 use Rattle.std.proofs.Common.{arith, ap, length-append, leb-true, ltb-true}
-use Rattle.std.proofs.Math.Option.{Option, none, some}
+use Rattle.std.specs.Prelude.{Option, None, Some}
 use Rattle.bits.specs.Bits.{Bits, digits}
 use Rattle.bits.specs.BitsLaws.{length_digits}
 use Rattle.bits.specs.Reader.{Answer, Reader, got, then, Local}
 use Rattle.bits.specs.ReaderLaws.{got-local, bind_local, split-then, Passes, got-passes, bind_passes}
 use Rattle.elements.specs.Table.{length_width}
 use Rattle.elements.proofs.TableBack.{Back, SlotBack}
-use Rattle.elements.specs.Numbers.{held, option_all, option_map}
+use Rattle.elements.specs.Numbers.{held, option_all}
 use Rattle.elements.proofs.NumbersLaws.{both}
 use Rattle.elements.specs.Generics.{data_width, entries_width, type3, type4, type3_bits, type4_bits, type3_fits, type4_fits}
 use Rattle.elements.proofs.GenericsLaws.{type3-local, type4-local, type3-passes, type4-passes, type3-back, type4-back}
@@ -72,8 +72,8 @@ content-own s n bs {e} {rest} = go s.kind
 option-slot-back : {A : Type 0} (s : Slot) (is : A → Element) (test : A → Bool)
     → ((a : A) → test a ≡ true → Back content content_bits element_normal s (is a))
     → (o : Option A) → option_all test o ≡ true → SlotBack content content_bits element_normal s (option_map is o)
-option-slot-back s is test back none h = tt
-option-slot-back s is test back (some a) h = back a h
+option-slot-back s is test back None h = tt
+option-slot-back s is test back (Some a) h = back a h
 
 type3-short : (g : Type3FieldGeneric) → type3_fits g ≡ true → length (type3_bits g) < 2 ^ length_width
 unfolding type3_bits type3_fits

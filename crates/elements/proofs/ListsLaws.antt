@@ -1,10 +1,10 @@
 -- Laws of lists of groups, for any kind of group of which the hypotheses below hold.
 use Prim.Native.Nat.{ℕ, zero, suc, ◌^◌, ◌≤◌}
 use Rattle.std.proofs.Common.{arith, sym, ◌∙◌, take_at}
-use Rattle.std.specs.Prelude.{◌≡◌, Bool, ◌&&◌, leb}
+use Rattle.std.specs.Prelude.{◌≡◌, Bool, ◌&&◌, leb, option_map}
 use Rattle.std.proofs.Math.Path.{refl, ap}
 use Rattle.std.proofs.Math.Bool.{true, false}
-use Rattle.std.proofs.Math.Option.{Option, none, some}
+use Rattle.std.specs.Prelude.{Option, None, Some}
 use mathlib.Core.List.{List, [], ◌∷◌, ◌++◌, append_assoc, map}
 use Rattle.std.proofs.Math.ListN.{length, take}
 use Rattle.std.proofs.lemmas.List.{length-map}
@@ -13,7 +13,7 @@ use borrow.Author.Tests.{leb-true, lt-ltb}
 use Rattle.bits.specs.Bits.{Bits}
 use Rattle.bits.specs.Reader.{got, times, exactly, Local}
 use Rattle.bits.specs.ReaderLaws.{local·rules, got-local, bind_local, times-local, local_tail, split-then, exactly-got, Passes, exactly-passes}
-use Rattle.elements.specs.Numbers.{held, option_all, option_map}
+use Rattle.elements.specs.Numbers.{held, option_all}
 use Rattle.elements.proofs.NumbersLaws.{never, both, same_map}
 use Rattle.elements.proofs.GroupsLaws.{uplink-local, uplink_back_lem, uplink-same, uplink_normal-same, uplink-own, downlink-local, downlink_back_lem, downlink-same, downlink_normal-same, downlink-own}
 use Rattle.elements.specs.Generics.{entries_width}
@@ -115,7 +115,7 @@ module _ {G L : Type 0} {k : Groups G L} (s : Sound k) where
   each-normal (g ∷ gs) = one_more (s.normal-same g) (each-normal gs)
 
   -- the entries of a list that is made of them
-  made-entries : (gs : List G) → take (k.count (list_of k (some gs))) (k.groups (list_of k (some gs))) ≡ gs
+  made-entries : (gs : List G) → take (k.count (list_of k (Some gs))) (k.groups (list_of k (Some gs))) ≡ gs
   made-entries gs = rw (s.count true (length gs) (padded k gs), s.groups true (length gs) (padded k gs), take_at gs _ (length gs) refl)
 
   pub list_normal-same : (l : L) → list_fits k l ≡ true → length (k.groups l) ≡ entries_most → SameList k l (list_normal k l)
@@ -146,12 +146,12 @@ module _ {G L : Type 0} {k : Groups G L} (s : Sound k) where
 
   normal-list_of : (o : Option (List G)) → list_normal k (list_of k o) ≡ list_of k (option_map (map k.normal) o)
   unfolding list_normal
-  normal-list_of none = rw (s.present false 0 (padded k []))
-  normal-list_of (some gs) = rw (s.present true (length gs) (padded k gs), made-entries gs)
+  normal-list_of None = rw (s.present false 0 (padded k []))
+  normal-list_of (Some gs) = rw (s.present true (length gs) (padded k gs), made-entries gs)
 
   -- an absent list is its own normal form
-  pub absent-own : list_normal k (list_of k none) ≡ list_of k none
-  absent-own = normal-list_of none
+  pub absent-own : list_normal k (list_of k None) ≡ list_of k None
+  absent-own = normal-list_of None
 
   times-own : (m : ℕ) (bs : Bits) {gs : List G} {rest : Bits} → times m k.group bs ≡ got gs rest → map k.normal gs ≡ gs
   unfolding times
@@ -168,5 +168,5 @@ module _ {G L : Type 0} {k : Groups G L} (s : Sound k) where
   list-own n bs {l} e =
       entries-got (λ m n. exactly n (groups_read k m)) n bs e (λ m mid q.
       split-then (times m k.group mid) _ (exactly-got _ (groups_read k m) mid q).inner (λ gs b₁ p₁ q₁.
-      let made : list_of k (some gs) ≡ l = cc in
-      rw (← made) (normal-list_of (some gs) ∙ ap (λ x. list_of k (some x)) (times-own m mid p₁))))
+      let made : list_of k (Some gs) ≡ l = cc in
+      rw (← made) (normal-list_of (Some gs) ∙ ap (λ x. list_of k (Some x)) (times-own m mid p₁))))

@@ -2,7 +2,7 @@
 use Rattle.std.specs.Prelude.{ℕ, ◌^◌, ◌<◌, ◌≡◌, refl, ◌&&◌, length, get_or, eqb}
 use Rattle.std.proofs.Common.{sym, ap, ◌∙◌, lit<}
 use Rattle.std.proofs.Math.Bool.{Bool, true, false, cond}
-use Rattle.std.proofs.Math.Option.{Option, none, some}
+use Rattle.std.specs.Prelude.{Option, None, Some}
 use mathlib.Core.List.{List, [], ◌∷◌, ◌++◌, append_assoc}
 use Rattle.bits.specs.Bits.{Bits, bit, digits}
 use Rattle.bits.specs.BitsLaws.{bit_lt}
@@ -49,16 +49,16 @@ module _ {G L : Type 0} {k : Groups G L} (s : Sound k) (i : ℕ) where
   nested-own bs {l} {rest} e = split-then (field flag_width bs) _ e (λ o mid p q. test (eqb o 1) mid q)
     where
       only : {vs : List (Option L)} → AllSlots {S = ℕ} (λ j l. list_normal k l ≡ l) (i ∷ []) vs
-          → list_normal k (value_or (list_of k none) (get_or vs 0 none)) ≡ value_or (list_of k none) (get_or vs 0 none)
-      only (one-slot {v = none} h slots_end) = absent-own s
-      only (one-slot {v = some l} h slots_end) = h
+          → list_normal k (value_or (list_of k None) (get_or vs 0 None)) ≡ value_or (list_of k None) (get_or vs 0 None)
+      only (one-slot {v = None} h slots_end) = absent-own s
+      only (one-slot {v = Some l} h slots_end) = h
 
       test : (b : Bool) (mid : Bits) → nested_if k i b mid ≡ got l rest → list_normal k l ≡ l
       test true mid q =
           split-then (scan_table (λ i. i) (λ i. list k) false (i ∷ []) mid) _ q (λ x r p' q'.
-          let made : value_or (list_of k none) (get_or x.value 0 none) ≡ l = cc in
+          let made : value_or (list_of k None) (get_or x.value 0 None) ≡ l = cc in
           rw (← made) (only (scan-all (λ i. i) (λ i. list k) (λ j n bs l rest. list-own s n bs) _ false (i ∷ []) mid p')))
-      test false mid q = let made : list_of k none ≡ l = cc in rw (← made) (absent-own s)
+      test false mid q = let made : list_of k None ≡ l = cc in rw (← made) (absent-own s)
 
   -- a list that is written is read back, in normal form
   pub nested-back : distinct (λ i. i) (i ∷ []) ≡ true → (l : L) → ListOk k l → (rest : Bits)
@@ -73,7 +73,7 @@ module _ {G L : Type 0} {k : Groups G L} (s : Sound k) (i : ℕ) where
 
       go : (p : Bool) → k.present l ≡ p → nested_if k i (eqb (bit p) 1) (table p ++ rest) ≡ got (list_normal k l) rest
       go true e =
-          rw (table-back (λ i. i) (λ i. list k) (λ i. list_bits k) (λ i. list_normal k) _ (i ∷ []) apart (some l ∷ [])
+          rw (table-back (λ i. i) (λ i. list k) (λ i. list_bits k) (λ i. list_normal k) _ (i ∷ []) apart (Some l ∷ [])
           (record { short = rw e at ok.short; reads = list_back s l e ok.array ok.fits ok.one ok.listed }, tt) rest)
       go false e = rw e
 

@@ -1,9 +1,9 @@
 -- The numbers of reading: below a call, a reader refuses with 2 to 7 alone.
 use Rattle.std.specs.Prelude.{ℕ, zero, suc, ◌+◌, ◌-◌, ◌≤◌, ◌≡◌, refl, Bool, true, false, cond, length, take, drop, leb, eqb}
 use Rattle.std.proofs.Common.{arith}
-use Rattle.std.proofs.Math.Option.{Option, none, some}
+use Rattle.std.specs.Prelude.{Option, None, Some}
 use mathlib.Core.List.{List, [], ◌∷◌}
-use Rattle.bits.specs.PduParseError.{buffer_ended, invalid_value, type4_underflow, inconsistent_length, invalid_trailing_mbit_value}
+use Rattle.bits.specs.PduParseError.{number_of, buffer_ended, invalid_value, type4_underflow, inconsistent_length, invalid_trailing_mbit_value}
 use Rattle.bits.specs.Bits.{Bits, number}
 use Rattle.bits.specs.Reader.{Answer, got, refused, Reader, then, ◌>>=◌, field, pass, unless, optional, exactly, times}
 use Rattle.bits.specs.ReaderLaws.{got-refused, refused-same, optional-made, times-made}
@@ -17,25 +17,26 @@ use Rattle.elements.specs.Generics.{kept, kept_entries, type3, type4, entries, e
 use Rattle.elements.specs.Lists.{Groups, list, list_of, uplinks, downlinks}
 use Rattle.elements.specs.Locations.{group_identity_uplink_identifier, group_identity_downlink_identifier, nested, nested_if, is_unset, demand_reserved, demand_body, location_demand, accept_reserved, accept_body, location_accept}
 use Rattle.elements.specs.Kinds.{Kind, generic_type3, generic_type4, of_location_demand, of_location_accept, of_downlinks, content_of, Slot, content}
+use Rattle.bits.specs.declared.pdu_parse_error.PduParseErr.{PduParseErr}
 
 -- one of the numbers 2 to 7
-pub record ReadingNumber (n : ℕ) : Type 0 where
-  pub low : 2 ≤ n
-  pub high : n ≤ 7
+pub record ReadingNumber (e : PduParseErr) : Type 0 where
+  pub low : 2 ≤ number_of e
+  pub high : number_of e ≤ 7
 
 pub record Numbered {A : Type 0} (r : Reader A) : Type 0 where
-  pub at : (bs : Bits) (n : ℕ) → r bs ≡ refused n → ReadingNumber n
+  pub at : (bs : Bits) (n : PduParseErr) → r bs ≡ refused n → ReadingNumber n
 
 pub got-numbered : {A : Type 0} (x : A) → Numbered (λ bs. got x bs)
 got-numbered x = record { at = λ bs n e. got-refused e }
 
-pub refused-numbered : {A : Type 0} (m : ℕ) → ReadingNumber m → Numbered {A = A} (λ bs. refused m)
+pub refused-numbered : {A : Type 0} (m : PduParseErr) → ReadingNumber m → Numbered {A = A} (λ bs. refused m)
 refused-numbered m h = record { at = λ bs n e. rw (← refused-same e) h }
 
 pub bind_numbered : {A B : Type 0} (r : Reader A) (f : A → Reader B) → Numbered r → ((a : A) → Numbered (f a)) → Numbered (r >>= f)
 bind_numbered {A} r f hr hf = record { at = λ bs n e. go bs n (r bs) refl e }
   where
-    go : (bs : Bits) (n : ℕ) (x : Answer A) → r bs ≡ x → then x f ≡ refused n → ReadingNumber n
+    go : (bs : Bits) (n : PduParseErr) (x : Answer A) → r bs ≡ x → then x f ≡ refused n → ReadingNumber n
     go bs n (got a rest) p e = (hf a).at rest n e
     go bs n (refused m) p e = rw (← refused-same e) (hr.at bs m p)
 
@@ -46,7 +47,7 @@ pub field-numbered : (w : ℕ) → Numbered (field w)
 unfolding field
 field-numbered w = record { at = λ bs n e. go bs n (leb w (length bs)) e }
   where
-    go : (bs : Bits) (n : ℕ) (b : Bool) → cond b (got (number (take w bs)) (drop w bs)) (refused buffer_ended) ≡ refused n → ReadingNumber n
+    go : (bs : Bits) (n : PduParseErr) (b : Bool) → cond b (got (number (take w bs)) (drop w bs)) (refused buffer_ended) ≡ refused n → ReadingNumber n
     go bs n true e = got-refused e
     go bs n false e = rw (← refused-same e) ended
 
@@ -54,7 +55,7 @@ pub pass-numbered : (w : ℕ) → Numbered (pass w)
 unfolding pass
 pass-numbered w = bind_numbered (field w) _ (field-numbered w) (λ v. got-numbered tt)
 
-pub unless-numbered : (b : Bool) (m : ℕ) → ReadingNumber m → Numbered (unless b m)
+pub unless-numbered : (b : Bool) (m : PduParseErr) → ReadingNumber m → Numbered (unless b m)
 unless-numbered true m h = got-numbered tt
 unless-numbered false m h = refused-numbered m h
 
@@ -70,11 +71,11 @@ exactly-numbered {A} n r h = record { at = λ bs m e. go bs m (r bs) refl e }
     six : ReadingNumber inconsistent_length
     six = record { low = omega arith; high = omega arith }
 
-    test : (b : Bool) (a : A) (rest : Bits) (m : ℕ) → then (unless b inconsistent_length rest) (λ z. got a) ≡ refused m → ReadingNumber m
+    test : (b : Bool) (a : A) (rest : Bits) (m : PduParseErr) → then (unless b inconsistent_length rest) (λ z. got a) ≡ refused m → ReadingNumber m
     test true a rest m e = got-refused e
     test false a rest m e = rw (← refused-same e) six
 
-    go : (bs : Bits) (m : ℕ) (x : Answer A) → r bs ≡ x
+    go : (bs : Bits) (m : PduParseErr) (x : Answer A) → r bs ≡ x
         → then x (λ a rest. then (unless (eqb (length bs) (n + length rest)) inconsistent_length rest) (λ z. got a)) ≡ refused m → ReadingNumber m
     go bs m (got a rest) p e = test (eqb (length bs) (n + length rest)) a rest m e
     go bs m (refused k) p e = rw (← refused-same e) (h.at bs k p)
@@ -82,7 +83,7 @@ exactly-numbered {A} n r h = record { at = λ bs m e. go bs m (r bs) refl e }
 pub ruleset numbered·rules = (bind_numbered, field-numbered, pass-numbered, got-numbered, optional-numbered, times-numbered, exactly-numbered)
 
 pub type2-numbered : {A : Type 0} (r : Reader A) → Numbered r → Numbered (type2 r)
-type2-numbered r h = bind_numbered (field flag_width) _ (field-numbered flag_width) (λ p. optional-numbered some none (eqb p 1) r h)
+type2-numbered r h = bind_numbered (field flag_width) _ (field-numbered flag_width) (λ p. optional-numbered Some None (eqb p 1) r h)
 
 -- ## elements
 
@@ -140,7 +141,7 @@ type4-numbered = entries-numbered kept_entries (λ k n. bind_numbered (kept n) _
 list-numbered : {G L : Type 0} (k : Groups G L) → Numbered k.group → (n : ℕ) → Numbered (list k n)
 unfolding list
 list-numbered k h =
-    entries-numbered _ (λ m n. exactly-numbered n _ (bind_numbered (times m k.group) _ (times-numbered m k.group h) (λ gs. got-numbered (list_of k (some gs)))))
+    entries-numbered _ (λ m n. exactly-numbered n _ (bind_numbered (times m k.group) _ (times-numbered m k.group h) (λ gs. got-numbered (list_of k (Some gs)))))
 
 -- ## tables
 
@@ -163,8 +164,8 @@ closing-numbered = bind_numbered (field mbit_width) _ (field-numbered mbit_width
 next-numbered : (stop : ℕ → Bool) → Numbered (next stop)
 next-numbered stop = record {
   at = λ bs.
-      (next_cases stop Numbered (refused-numbered buffer_ended ended) (look bs) (λ h. got-numbered none)
-      (λ i l t. bind_numbered piece (λ p. got (some p)) piece-numbered (λ p. got-numbered (some p)))).at bs;
+      (next_cases stop Numbered (refused-numbered buffer_ended ended) (look bs) (λ h. got-numbered None)
+      (λ i l t. bind_numbered piece (λ p. got (Some p)) piece-numbered (λ p. got-numbered (Some p)))).at bs;
 }
 
 many-numbered : {A : Type 0} (r : Reader (Option A)) → Numbered r → (m : ℕ) → Numbered (many_of m r)
@@ -172,9 +173,9 @@ unfolding many_of
 many-numbered {A} r h zero = refused-numbered buffer_ended ended
 many-numbered {A} r h (suc m) = record { at = λ bs n e. go (many-numbered r h m) bs n (r bs) refl e }
   where
-    go : Numbered (many_of m r) → (bs : Bits) (n : ℕ) (x : Answer (Option A)) → r bs ≡ x → onward x (many_of m r) ≡ refused n → ReadingNumber n
-    go more bs n (got none rest) p e = got-refused e
-    go more bs n (got (some a) rest) p e = (bind_numbered (many_of m r) (λ xs. got (a ∷ xs)) more (λ xs. got-numbered (a ∷ xs))).at rest n e
+    go : Numbered (many_of m r) → (bs : Bits) (n : PduParseErr) (x : Answer (Option A)) → r bs ≡ x → onward x (many_of m r) ≡ refused n → ReadingNumber n
+    go more bs n (got None rest) p e = got-refused e
+    go more bs n (got (Some a) rest) p e = (bind_numbered (many_of m r) (λ xs. got (a ∷ xs)) more (λ xs. got-numbered (a ∷ xs))).at rest n e
     go more bs n (refused k) p e = rw (← refused-same e) (h.at bs k p)
 
 pieces-numbered : (stop : ℕ → Bool) → Numbered (pieces stop)
@@ -189,9 +190,9 @@ module _ {S A : Type 0} (identifier : S → ℕ) (content : S → ℕ → Reader
   slot-numbered : (s : S) → Numbered (slot identifier content s)
   slot-numbered s = record {
     at = λ bs.
-        (slot_cases identifier content s Numbered (refused-numbered buffer_ended ended) (got-numbered none) (look bs) (λ l.
-        bind_numbered (element identifier content s) (λ a. got (some a))
-        (bind_numbered header _ header-numbered (λ x. h s x.size)) (λ a. got-numbered (some a)))).at bs;
+        (slot_cases identifier content s Numbered (refused-numbered buffer_ended ended) (got-numbered None) (look bs) (λ l.
+        bind_numbered (element identifier content s) (λ a. got (Some a))
+        (bind_numbered header _ header-numbered (λ x. h s x.size)) (λ a. got-numbered (Some a)))).at bs;
   }
 
   pub scan-numbered : (listed : ℕ → Bool) (b : Bool) (ss : List S) → Numbered (scan identifier content listed b ss)

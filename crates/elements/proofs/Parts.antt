@@ -3,7 +3,7 @@ use Rattle.std.specs.Prelude.{ℕ, ◌+◌, ◌≤◌, ◌≡◌, Bool, true, fa
 use native.Mathlib.Omega.{arith}
 use Rattle.std.proofs.Math.Path.{sym, ap}
 use Rattle.std.proofs.Common.{◌∙◌, length-append}
-use Rattle.std.proofs.Math.Option.{Option}
+use Rattle.std.specs.Prelude.{Option}
 use mathlib.Core.List.{List, [], ◌∷◌, ◌++◌, map, append-nil}
 use Rattle.std.proofs.Math.ListN.{length}
 use Rattle.std.proofs.lemmas.List.Edits.{sets}
@@ -23,6 +23,7 @@ use Rattle.elements.proofs.PlacedTable.{skip_fewer, skipping_tail, held_tail, ge
 use Rattle.elements.specs.declared.typed_pdu_fields.Generic.{Generic}
 use Rattle.elements.specs.declared.typed_pdu_fields.Row.{Row}
 use Rattle.elements.specs.declared.typed_pdu_fields.Slots.{Slots}
+use Rattle.bits.specs.declared.pdu_parse_error.PduParseErr.{PduParseErr}
 
 -- what generic slots hold, and the same as the code holds it
 pub data Each : List Row → List (Option Element) → List Generic → Type 0 where
@@ -117,7 +118,7 @@ module _ (table : List Slot) (b : Bool) where
   unfolding generics
   generics_bounded [] = record {
     most = λ bs x rest e.
-        let none : x.skipped ≡ 0 = cc in
+        let None : x.skipped ≡ 0 = cc in
         let left : bs ≡ rest = cc in
         omega (arith, ap length left);
   }
@@ -144,7 +145,7 @@ module _ (table : List Slot) (b : Bool) where
 
   -- a part, by its slots and by what is behind them
   module _ (rs : List Row) (last : Bool) (from : ℕ) {os : List ℕ} {c : Cursor} where
-    pub no_slots_lem : {n : ℕ} → Gives (filled table b no_generics from rs) os c (halted n) → Gives (part table rs last b from) os c (halted n)
+    pub no_slots_lem : {n : PduParseErr} → Gives (filled table b no_generics from rs) os c (halted n) → Gives (part table rs last b from) os c (halted n)
     unfolding part
     no_slots_lem e = stop _ (made-not (slots_in no_generics from) (generics table rs b) e)
 
@@ -154,7 +155,7 @@ module _ (table : List Slot) (b : Bool) where
       unfolding part
       behind_slots h = made_of (slots_in no_generics from) (generics table rs b) e (generics_tail rs) (λ x p g. step _ g (generics_tail rs) (h x p))
 
-      pub no_behind : {n : ℕ} → Gives (behind_part last table b) os k (halted n) → Gives (part table rs last b from) os c (halted n)
+      pub no_behind : {n : PduParseErr} → Gives (behind_part last table b) os k (halted n) → Gives (part table rs last b from) os c (halted n)
       no_behind g = behind_slots (λ x p. stop _ g)
 
       pub part-read : {n : ℕ} {j : Cursor} → Gives (behind_part last table b) os k (placed n j)
@@ -162,16 +163,16 @@ module _ (table : List Slot) (b : Bool) where
       part-read {n} g = behind_slots (λ x p. step _ g (behind_tail last) (ends (ap (λ (s : Slots). record { skipped = s.skipped + n; generics = s.generics }) p)))
 
   -- a part without slots: nothing stands in the array
-  module _ (last : Bool) (from : ℕ) {os : List ℕ} {c : Cursor} {n : ℕ} where
-    pub empty-part : {k : Cursor} → Gives (behind_part last table b) os c (placed n k)
+  module _ (last : Bool) (from : ℕ) {os : List ℕ} {c : Cursor} where
+    pub empty-part : {n : ℕ} {k : Cursor} → Gives (behind_part last table b) os c (placed n k)
         → Gives (part table [] last b from) os c (placed (record { skipped = n; generics = no_generics }) k)
     unfolding part generics
-    empty-part {k} e =
+    empty-part {n} {k} e =
         let g : Gives (part table [] last b from) os c (placed (record { skipped = 0 + n; generics = no_generics }) k) = step _ e (behind_tail last) done in
         let z : 0 + n ≡ n = omega arith in
         rw z at g
 
-    pub empty-part-refused : Gives (behind_part last table b) os c (halted n) → Gives (part table [] last b from) os c (halted n)
+    pub empty-part-refused : {n : PduParseErr} → Gives (behind_part last table b) os c (halted n) → Gives (part table [] last b from) os c (halted n)
     unfolding part generics
     empty-part-refused e = stop _ e
 
@@ -230,21 +231,21 @@ module _ (table : List Slot) (b : Bool) where
       parted : {x : Placed (Counted X)} → Gives in_parts os c x → Gives whole os c x
       parted g = alike in_parts (in_parts_lem (window os c)) g
 
-      pub no_front_lem : {n : ℕ} → Gives (part table p.before false b 0) os c (halted n) → Gives whole os c (halted n)
+      pub no_front_lem : {n : PduParseErr} → Gives (part table p.before false b 0) os c (halted n) → Gives whole os c (halted n)
       no_front_lem e = parted (stop _ e)
 
       module _ {f : Slots} {c₁ : Cursor} (e₁ : Gives (part table p.before false b 0) os c (placed f c₁)) where
         from-slot : {x : Placed (Counted X)} → Gives (behind_front_lem f) os c₁ x → Gives whole os c x
         from-slot h = parted (step _ e₁ (part_tail p.before false 0) h)
 
-        pub no_slot : {n : ℕ} → Gives between os c₁ (halted n) → Gives whole os c (halted n)
+        pub no_slot : {n : PduParseErr} → Gives between os c₁ (halted n) → Gives whole os c (halted n)
         no_slot e = from-slot (stop _ e)
 
         module _ {a : A} {c₂ : Cursor} (e₂ : Gives between os c₁ (placed a c₂)) where
           from_back : {x : Placed (Counted X)} → Gives (part table p.behind true b p.from >>= joined f a) os c₂ x → Gives whole os c x
           from_back h = from-slot (step _ e₂ (held_tail p.own p.out) h)
 
-          pub no_back : {n : ℕ} → Gives (part table p.behind true b p.from) os c₂ (halted n) → Gives whole os c (halted n)
+          pub no_back : {n : PduParseErr} → Gives (part table p.behind true b p.from) os c₂ (halted n) → Gives whole os c (halted n)
           no_back e = from_back (stop _ e)
 
           module _ {g : Slots} {c₃ : Cursor} (e₃ : Gives (part table p.behind true b p.from) os c₂ (placed g c₃)) where

@@ -3,28 +3,30 @@ use Rattle.std.specs.Prelude.{ℕ, ◌+◌, ◌-◌, ◌≤◌, ◌<◌, ◌^◌
 use Rattle.std.proofs.Common.{arith, ◌∙◌, length-set, length-take-le, le-leb, eq-eqb, eqb-true}
 use Rattle.std.proofs.Math.Path.{refl, sym, ap}
 use Rattle.std.proofs.Math.Bool.{true, false}
-use Rattle.std.proofs.Math.Option.{none, some}
+use Rattle.std.specs.Prelude.{None, Some}
 use Rattle.std.proofs.Math.ListN.{length}
 use Rattle.std.proofs.lemmas.Bool.{lt-leb}
 use Rattle.bits.specs.Bits.{Bits}
 use Rattle.bits.specs.PduParseError.{type4_underflow, inconsistent_length}
 use Rattle.bits.specs.Reader.{Answer, got, refused, Reader, then, ◌>>=◌, field, unless, times, Tail}
-use Rattle.bits.specs.ReaderLaws.{then-then, then_same, split-then, refused-got, local·rules, local_tail, field-local, field_lt, unless-local, bind_tail}
+use Rattle.bits.specs.ReaderLaws.{then-then, then_same, split-then, refused-got, local·rules, local_tail, field-local, field_lt, unless-local, zero_one}
 use Rattle.bits.specs.Placed.{window, Placed, placed, halted, at}
-use Rattle.bits.specs.PlacedLaws.{Gives, told, step, stop}
+use Rattle.bits.specs.PlacedLaws.{Gives, told, step, stop, done}
 use Rattle.bits.specs.PlacedTimes.{alike, exact, inexact, exact-stop, passed, failed, gathered, gathered_none, turned, turned-not, set-behind, padded-array}
 use Rattle.bits.specs.declared.bitbuffer.Cursor.{Cursor}
 use Rattle.elements.specs.Generics.{entries_width, entries}
 use Rattle.elements.specs.Numbers.{value_or}
 use Rattle.elements.proofs.NumbersLaws.{both}
+use Rattle.elements.proofs.PlacedOptional.{known}
 use Rattle.elements.specs.Table.{length_width, look, Header, header, slot}
 use Rattle.elements.proofs.TableLaws.{two_slots, slot_cases, slot_tail}
 use Rattle.elements.specs.Lists.{Groups, list_as, list_of, groups_as, list, entries_most}
 use Rattle.elements.proofs.ListsLaws.{Sound, entries-local}
 use Rattle.elements.specs.Rows.{sized}
-use Rattle.elements.specs.Fronts.{no_front, front_of, front_at, list_front, behind_front}
+use Rattle.elements.specs.Fronts.{front_of, front_at, list_front, behind_front}
 use Rattle.elements.specs.GroupAnswers.{nested_slot, nested_slot_if}
 use Rattle.elements.specs.declared.typed_pdu_fields.ListFront.{ListFront}
+use Rattle.bits.specs.declared.pdu_parse_error.PduParseErr.{PduParseErr}
 
 -- ## a loop that fills the array
 
@@ -56,7 +58,7 @@ module _ {G L : Type 0} (k : Groups G L) (p : Bool) where
             zeros = set-behind k.zero groups (replicate entries_most k.zero) i g f.zeros;
           }
 
-      filled-not : {m : ℕ} → i < n → Gives k.group os place (halted m) → Gives (groups_as k p n) os c (halted m)
+      filled-not : {m : PduParseErr} → i < n → Gives k.group os place (halted m) → Gives (groups_as k p n) os c (halted m)
       filled-not {m} h e = record { eq = f.rest ∙ turned-not listed k.group os place i n groups h m e }
 
       filled-all : n ≤ i → n ≤ entries_most → Gives (groups_as k p n) os c (placed (k.make p n groups) place)
@@ -77,7 +79,7 @@ module _ {A : Type 0} (r : ℕ → ℕ → Reader A) {os : List ℕ} {c : Cursor
   behind-length : {x : Placed A} → Gives (entries r n) os c₁ x → Gives (sized (entries r)) os c x
   behind-length g = step _ e₁ (local_tail (field-local length_width)) g
 
-  pub entries_unnumbered : {m : ℕ} → Gives (field entries_width) os c₁ (halted m) → Gives (sized (entries r)) os c (halted m)
+  pub entries_unnumbered : {m : PduParseErr} → Gives (field entries_width) os c₁ (halted m) → Gives (sized (entries r)) os c (halted m)
   entries_unnumbered e = behind-length (stop _ e)
 
   module _ {m : ℕ} {c₂ : Cursor} (e₂ : Gives (field entries_width) os c₁ (placed m c₂)) where
@@ -101,90 +103,88 @@ module _ {A B : Type 0} (r : ℕ → ℕ → Reader A) (f : A → Reader B) wher
 -- ## a list's slot, by its front and its groups
 
 -- a value where there is one
-there : {A : Type 0} (d : A) (y : Answer A) → then (then y (λ a. got (some a))) (λ o. got (value_or d o)) ≡ y
+there : {A : Type 0} (d : A) (y : Answer A) → then (then y (λ a. got (Some a))) (λ o. got (value_or d o)) ≡ y
 there d (got a rest) = refl
 there d (refused n) = refl
 
 -- a front counts no more groups than there is room for
-no_groups : {bs rest : Bits} {f : ListFront} → got no_front bs ≡ got f rest → f.count ≤ entries_most
-no_groups {f = f} e = let h : no_front ≡ f = cc in rw (← h) (omega arith)
-
-front-few : (i : ℕ) (b : Bool) (bs : Bits) {f : ListFront} {rest : Bits} → list_front i b bs ≡ got f rest → f.count ≤ entries_most
+front-few : (i : ℕ) (b : Bool) (bs : Bits) {f : ListFront} {rest : Bits} → list_front i b bs ≡ got (Some f) rest → f.count ≤ entries_most
 unfolding list_front
-front-few i false bs = no_groups
-front-few i true bs {f} {rest} =
-    slot_cases (λ i. i) (λ i. front_at) i (λ r. then (r bs) (λ o. got (value_or no_front o)) ≡ got f rest → f.count ≤ entries_most)
-    (λ e. refused-got e) no_groups (look bs) (λ l. headed (header bs))
+front-few i false bs e = zero_one (cc)
+front-few i true bs {f} {rest} e0 =
+    slot_cases (λ i. i) (λ i. front_at) i (λ r. r bs ≡ got (Some f) rest → f.count ≤ entries_most)
+    (λ e. refused-got e) (λ e. zero_one (cc)) (look bs) (λ l. headed (header bs)) e0
   where
-    tested : (m n : ℕ) (b : Bool) (mid : Bits) → m < 2 ^ entries_width → then (unless b type4_underflow mid) (λ z. front_of m n) ≡ got f rest
+    tested : (m n : ℕ) (b : Bool) (mid end : Bits) → m < 2 ^ entries_width → then (unless b type4_underflow mid) (λ z. front_of m n) ≡ got f end
         → f.count ≤ entries_most
-    tested m n true mid l e = let h : m ≡ f.count = cc in omega arith
-    tested m n false mid l e = refused-got e
+    tested m n true mid end l e = let h : m ≡ f.count = cc in omega arith
+    tested m n false mid end l e = refused-got e
 
-    headed : (y : Answer Header) → then (then (then y (λ h. front_at h.size)) (λ f. got (some f))) (λ o. got (value_or no_front o)) ≡ got f rest → f.count ≤ entries_most
+    headed : (y : Answer Header) → then (then y (λ h. front_at h.size)) (λ f. got (Some f)) ≡ got (Some f) rest → f.count ≤ entries_most
     headed (got h mid) e =
-        split-then (field entries_width mid) _ (sym (there no_front (front_at h.size mid)) ∙ e) (λ m end p q.
-        tested m (h.size - entries_width) (leb entries_width h.size) end (field_lt entries_width mid p) q)
+        split-then (front_at h.size mid) (λ f. got (Some f)) e (λ g end p q.
+        let same : g ≡ f = cc in
+        split-then (field entries_width mid) _ (rw same at p) (λ m front p₁ q₁.
+        tested m (h.size - entries_width) (leb entries_width h.size) front end (field_lt entries_width mid p₁) q₁))
     headed (refused n) e = refused-got e
 
 front_tail : (i : ℕ) (b : Bool) → Tail (list_front i b)
 unfolding list_front
-front_tail i true = bind_tail (slot (λ i. i) (λ i. front_at) i) _ (slot_tail (λ i. i) (λ i. front_at) (λ j n. search local·rules depth 8) i) (λ o. search local·rules)
+front_tail i true = slot_tail (λ i. i) (λ i. front_at) (λ j n. search local·rules depth 8) i
 front_tail i false = search local·rules
 
 module _ {G L : Type 0} (k : Groups G L) (i : ℕ) where
-  -- no groups, in no bits
-  none_behind : (bs : Bits) → behind_front k no_front bs ≡ got (list_of k none) bs
-  unfolding times
-  none_behind bs = rw (eq-eqb (length bs) (0 + length bs) (omega arith))
-
   -- where the list is there
-  groups-behind : (y : Answer Header) → then (then (then y (λ h. list k h.size)) (λ l. got (some l))) (λ o. got (value_or (list_of k none) o))
-      ≡ then (then (then (then y (λ h. front_at h.size)) (λ f. got (some f))) (λ o. got (value_or no_front o))) (behind_front k)
+  groups-behind : (y : Answer Header) → then (then (then y (λ h. list k h.size)) (λ l. got (Some l))) (λ o. got (value_or (list_of k None) o))
+      ≡ then (then (then y (λ h. front_at h.size)) (λ f. got (Some f))) (behind_front k)
   unfolding list
   groups-behind (got h rest) =
-      there (list_of k none) (list k h.size rest)
-      ∙ sym (entries-then front_of (behind_front k) h.size rest)
-      ∙ ap (λ y. then y (behind_front k)) (sym (there no_front (front_at h.size rest)))
+      there (list_of k None) (list k h.size rest)
+      ∙ sym (entries-then front_of (λ f. behind_front k (Some f)) h.size rest)
+      ∙ sym (then-then (front_at h.size rest) (λ f. got (Some f)) (behind_front k))
   groups-behind (refused n) = refl
 
   slot-behind : (b : Bool) (bs : Bits) → nested_slot_if k i b bs ≡ (list_front i b >>= behind_front k) bs
   unfolding nested_slot list_front
   slot-behind true bs =
       two_slots (λ i. i) (λ i. list k) i (λ i. i) (λ i. front_at) i refl
-      (λ r q. then (r bs) (λ o. got (value_or (list_of k none) o)) ≡ then (then (q bs) (λ o. got (value_or no_front o))) (behind_front k))
-      refl (sym (none_behind bs)) (look bs) (λ l. groups-behind (header bs))
-  slot-behind false bs = sym (none_behind bs)
+      (λ r q. then (r bs) (λ o. got (value_or (list_of k None) o)) ≡ then (q bs) (behind_front k))
+      refl refl (look bs) (λ l. groups-behind (header bs))
+  slot-behind false bs = refl
 
   module _ (b : Bool) {os : List ℕ} {c : Cursor} where
-    pub no_front_lem : {n : ℕ} → Gives (list_front i b) os c (halted n) → Gives (nested_slot_if k i b) os c (halted n)
+    pub no_front_lem : {n : PduParseErr} → Gives (list_front i b) os c (halted n) → Gives (nested_slot_if k i b) os c (halted n)
     no_front_lem e = alike (list_front i b >>= behind_front k) (slot-behind b _) (stop _ e)
+
+    -- an absent list
+    pub list-absent : {c₁ : Cursor} → Gives (list_front i b) os c (placed None c₁) → Gives (nested_slot_if k i b) os c (placed (list_of k None) c₁)
+    list-absent e = alike (list_front i b >>= behind_front k) (slot-behind b _) (step _ e (front_tail i b) done)
 
 -- A LIST'S SLOT, read by a loop behind its front: it stands at `place`, with j groups read
 module _ {G L : Type 0} {k : Groups G L} (s : Sound k) (i : ℕ) (b : Bool) {os : List ℕ} {c : Cursor} {f : ListFront} {c₁ : Cursor}
-    (e : Gives (list_front i b) os c (placed f c₁)) {groups : List G} {place : Cursor} {j : ℕ} (l : Filled k f.present os f.count c₁ groups place j) where
+    (e : Gives (list_front i b) os c (placed (Some f) c₁)) {groups : List G} {place : Cursor} {j : ℕ} (l : Filled k true os f.count c₁ groups place j) where
   pub few : f.count ≤ entries_most
   few = front-few i b (window os c) (told (front_tail i b) e).said
 
-  behind : {x : Placed L} → Gives (behind_front k f) os c₁ x → Gives (nested_slot_if k i b) os c x
+  behind : {x : Placed L} → Gives (behind_front k (Some f)) os c₁ x → Gives (nested_slot_if k i b) os c x
   behind g = alike (list_front i b >>= behind_front k) (slot-behind k i b _) (step _ e (front_tail i b) g)
 
   module _ (h : j < f.count) where
-    pub group-refused : {m : ℕ} → Gives k.group os place (halted m) → Gives (nested_slot_if k i b) os c (halted m)
+    pub group-refused : {m : PduParseErr} → Gives k.group os place (halted m) → Gives (nested_slot_if k i b) os c (halted m)
     group-refused g = behind (exact-stop _ (filled-not k _ l h g))
 
-    pub group-read : {g : G} {next : Cursor} → Gives k.group os place (placed g next) → Filled k f.present os f.count c₁ (set groups j g) next (j + 1)
+    pub group-read : {g : G} {next : Cursor} → Gives k.group os place (placed g next) → Filled k true os f.count c₁ (set groups j g) next (j + 1)
     group-read g = filled_more k _ l h few (local_tail s.local) g
 
   module _ (h : f.count ≤ j) where
-    all_there : Gives (groups_as k f.present f.count) os c₁ (placed (k.make f.present f.count groups) place)
+    all_there : Gives (groups_as k true f.count) os c₁ (placed (k.make true f.count groups) place)
     all_there = filled-all k _ l h few
 
     -- it ends behind where it begins
     pub list_on : c₁.at ≤ place.at
     list_on = (told (local_tail (entries-local s _ _)) all_there).on
 
-    pub list-whole : place.at - c₁.at ≡ f.len → Gives (nested_slot_if k i b) os c (placed (k.make f.present f.count groups) place)
+    pub list-whole : place.at - c₁.at ≡ f.len → Gives (nested_slot_if k i b) os c (placed (k.make true f.count groups) place)
     list-whole q = behind (exact _ all_there (local_tail (entries-local s _ _)) q)
 
     pub list-inexact : (place.at - c₁.at ≡ f.len → ⊥) → Gives (nested_slot_if k i b) os c (halted inconsistent_length)
@@ -192,10 +192,10 @@ module _ {G L : Type 0} {k : Groups G L} (s : Sound k) (i : ℕ) (b : Bool) {os 
 
 -- a list without groups, and without bits for them
 pub list_none : {G L : Type 0} {k : Groups G L} (s : Sound k) (i : ℕ) (b : Bool) {os : List ℕ} {c : Cursor} {f : ListFront} {c₁ : Cursor}
-    → Gives (list_front i b) os c (placed f c₁) → (eqb f.count 0 && eqb f.len 0) ≡ true
-    → Gives (nested_slot_if k i b) os c (placed (k.make f.present f.count (replicate entries_most k.zero)) c₁)
+    → Gives (list_front i b) os c (placed (Some f) c₁) → (eqb f.count 0 && eqb f.len 0) ≡ true
+    → Gives (nested_slot_if k i b) os c (placed (k.make true 0 (replicate entries_most k.zero)) c₁)
 list_none {k = k} s i b {f = f} e h =
     let x = both (eqb f.count 0) _ h in
     let n = eqb-true f.count 0 x.0 in
     let m = eqb-true f.len 0 x.1 in
-    list-whole s i b e (filled_none k _) (omega arith) (omega arith)
+    known (list-whole s i b e (filled_none k _) (omega arith) (omega arith)) (ap (λ m. k.make true m (replicate entries_most k.zero)) n)

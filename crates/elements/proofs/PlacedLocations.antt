@@ -3,7 +3,7 @@
 use Rattle.std.specs.Prelude.{ℕ, ◌-◌, ◌≤◌, ◌≡◌, refl, Bool, List, [], eqb}
 use Rattle.std.proofs.Common.{sym, ◌∙◌}
 use Rattle.std.proofs.Math.Bool.{true, false}
-use Rattle.std.proofs.Math.Option.{Option, none, some}
+use Rattle.std.specs.Prelude.{Option, None, Some}
 use Rattle.bits.specs.PduParseError.{inconsistent_length}
 use Rattle.bits.specs.Bits.{Bits}
 use Rattle.bits.specs.Reader.{Answer, got, refused, Reader, then, ◌>>=◌, field, exactly, Tail}
@@ -24,8 +24,8 @@ use Rattle.elements.specs.Rows.{sized, empty_table}
 use Rattle.elements.specs.Answers.{opening}
 use Rattle.elements.specs.GroupAnswers.{nested_slot, nested_slot_if, downlinks_slot}
 use Rattle.elements.proofs.PlacedTable.{slot-there, sized-made}
-use Rattle.elements.specs.declared.typed_pdu_fields.OptionalU8.{OptionalU8}
 use Rattle.elements.specs.declared.group_identity_downlink.OptionalDownlinks.{OptionalDownlinks}
+use Rattle.bits.specs.declared.pdu_parse_error.PduParseErr.{PduParseErr}
 
 -- ## a list inside a structure
 
@@ -54,7 +54,7 @@ module _ {G L : Type 0} {k : Groups G L} (s : Sound k) (i : ℕ) where
   nested_slot_tail false = search local·rules
 
   module _ {os : List ℕ} {c : Cursor} where
-    pub list_unannounced : {n : ℕ} → Gives (field flag_width) os c (halted n) → Gives (nested k i) os c (halted n)
+    pub list_unannounced : {n : PduParseErr} → Gives (field flag_width) os c (halted n) → Gives (nested k i) os c (halted n)
     unfolding nested
     list_unannounced e = stop _ e
 
@@ -63,11 +63,11 @@ module _ {G L : Type 0} {k : Groups G L} (s : Sound k) (i : ℕ) where
       unfolding nested
       behind_obit_lem g = step _ e₁ (local_tail (field-local flag_width)) (alike _ (nested-behind k i (eqb o 1) (window os c₁)) g)
 
-      pub list-refused : {n : ℕ} → Gives (nested_slot_if k i (eqb o 1)) os c₁ (halted n) → Gives (nested k i) os c (halted n)
+      pub list-refused : {n : PduParseErr} → Gives (nested_slot_if k i (eqb o 1)) os c₁ (halted n) → Gives (nested k i) os c (halted n)
       list-refused e = behind_obit_lem (stop _ e)
 
       module _ {l : L} {c₂ : Cursor} (e₂ : Gives (nested_slot_if k i (eqb o 1)) os c₁ (placed l c₂)) where
-        pub list_unclosed : {n : ℕ} → Gives (empty_table (eqb o 1)) os c₂ (halted n) → Gives (nested k i) os c (halted n)
+        pub list_unclosed : {n : PduParseErr} → Gives (empty_table (eqb o 1)) os c₂ (halted n) → Gives (nested k i) os c (halted n)
         list_unclosed e = behind_obit_lem (step _ e₂ (nested_slot_tail (eqb o 1)) (stop _ e))
 
         pub list-closed : {c₃ : Cursor} → Gives (empty_table (eqb o 1)) os c₂ (placed tt c₃) → Gives (nested k i) os c (placed l c₃)
@@ -77,7 +77,7 @@ module _ {G L : Type 0} {k : Groups G L} (s : Sound k) (i : ℕ) where
 
 module _ {G L D : Type 0} {k : Groups G L} (s : Sound k) (i : ℕ) (of : L → D) {body : Reader D} (tail : Tail body) {os : List ℕ} {c c₂ : Cursor}
     (front : (x : Placed D) → Gives (nested k i >>= λ l. got (of l)) os c₂ x → Gives body os c x) (n : ℕ) where
-  pub structure-refused : {m : ℕ} → Gives (nested k i) os c₂ (halted m) → Gives (exactly n body) os c (halted m)
+  pub structure-refused : {m : PduParseErr} → Gives (nested k i) os c₂ (halted m) → Gives (exactly n body) os c (halted m)
   structure-refused e = exact-stop n (front _ (stop _ e))
 
   module _ {l : L} {c₃ : Cursor} (e : Gives (nested k i) os c₂ (placed l c₃)) where
@@ -100,47 +100,40 @@ pub downlinks_slot_lem : (i : ℕ) → downlinks_slot i ≡ nested_slot downlink
 unfolding downlinks_slot nested_slot content_of
 downlinks_slot_lem i = λ j bs.
     two_slots identifier_of content (row i of_downlinks) (λ i. i) (λ i. list downlinks) i refl
-    (λ r q. then (r bs) (λ o. got (held_element o).downlinks) ≡ then (q bs) (λ o. got (value_or (list_of downlinks none) o)))
+    (λ r q. then (r bs) (λ o. got (held_element o).downlinks) ≡ then (q bs) (λ o. got (value_or (list_of downlinks None) o)))
     refl refl (look bs) (λ l. with_header (header bs)) j
   where
     there : (y : Answer OptionalDownlinks)
-        → then (then (then y (λ l. got (is_downlinks l))) (λ e. got (some e))) (λ o. got (held_element o).downlinks)
-        ≡ then (then y (λ l. got (some l))) (λ o. got (value_or (list_of downlinks none) o))
+        → then (then (then y (λ l. got (is_downlinks l))) (λ e. got (Some e))) (λ o. got (held_element o).downlinks)
+        ≡ then (then y (λ l. got (Some l))) (λ o. got (value_or (list_of downlinks None) o))
     there (got l rest) = refl
     there (refused n) = refl
 
     with_header : (y : Answer Header)
-        → then (then (then y (λ h. list downlinks h.size >>= λ l. got (is_downlinks l))) (λ e. got (some e))) (λ o. got (held_element o).downlinks)
-        ≡ then (then (then y (λ h. list downlinks h.size)) (λ l. got (some l))) (λ o. got (value_or (list_of downlinks none) o))
+        → then (then (then y (λ h. list downlinks h.size >>= λ l. got (is_downlinks l))) (λ e. got (Some e))) (λ o. got (held_element o).downlinks)
+        ≡ then (then (then y (λ h. list downlinks h.size)) (λ l. got (Some l))) (λ o. got (value_or (list_of downlinks None) o))
     with_header (got h rest) = there (list downlinks h.size rest)
     with_header (refused n) = refl
 
 -- ## a slot of a message's table: its content is what r gives, made into an element
 
--- the element with the identifier i stands at c, and its length at c₁
-pub record There (i : ℕ) (os : List ℕ) (c c₁ : Cursor) : Type 0 where
-  pub head : OptionalU8
-  pub opens : Gives opening os c (placed head c₁)
-  pub present : head.present ≡ true
-  pub is : head.value ≡ i
-
 module _ {A B : Type 0} (kind : Kind) (r : ℕ → Reader A) (is : A → Element) (out : Element → B) (made : content_of kind ≡ (λ n. r n >>= λ a. got (is a)))
-    {i : ℕ} {os : List ℕ} {c c₁ : Cursor} (t : There i os c c₁) where
+    {i : ℕ} {os : List ℕ} {c c₁ : Cursor} (t : Gives opening os c (placed (Some i) c₁)) where
   pub row-there : {x : Placed B} → Gives (sized (λ n. r n >>= λ a. got (out (is a)))) os c₁ x
       → Gives (slot identifier_of content (row i kind) >>= λ o. got (out (held_element o))) os c x
   row-there g =
-      slot-there identifier_of content (row i kind) _ t.opens t.present t.is
+      slot-there identifier_of content (row i kind) _ t refl
       (alike (sized (λ n. r n >>= λ a. got (out (is a)))) (rw made (sized-made r is out (window os c₁))) g)
 
   -- from its length on, one after the other
-  pub row_no_length : {n : ℕ} → Gives (field length_width) os c₁ (halted n) → Gives (slot identifier_of content (row i kind) >>= λ o. got (out (held_element o))) os c (halted n)
+  pub row_no_length : {n : PduParseErr} → Gives (field length_width) os c₁ (halted n) → Gives (slot identifier_of content (row i kind) >>= λ o. got (out (held_element o))) os c (halted n)
   row_no_length g = row-there (stop _ g)
 
   module _ {n : ℕ} {c₂ : Cursor} (e₂ : Gives (field length_width) os c₁ (placed n c₂)) where
     behind-length : {x : Placed B} → Gives (r n >>= λ a. got (out (is a))) os c₂ x → Gives (slot identifier_of content (row i kind) >>= λ o. got (out (held_element o))) os c x
     behind-length g = row-there (step _ e₂ (local_tail (field-local length_width)) g)
 
-    pub row-refused : {m : ℕ} → Gives (r n) os c₂ (halted m) → Gives (slot identifier_of content (row i kind) >>= λ o. got (out (held_element o))) os c (halted m)
+    pub row-refused : {m : PduParseErr} → Gives (r n) os c₂ (halted m) → Gives (slot identifier_of content (row i kind) >>= λ o. got (out (held_element o))) os c (halted m)
     row-refused g = behind-length (stop _ g)
 
     pub row_read : {a : A} {c₃ : Cursor} → Tail (r n) → Gives (r n) os c₂ (placed a c₃)

@@ -1,20 +1,26 @@
--- What may be absent, read at a cursor; and values that the code holds in another form than the definitions, as presence and value for an option.
+-- What may be absent, read at a cursor.
 use Rattle.std.specs.Prelude.{ℕ, ◌^◌, ◌<◌, ◌≡◌, Bool, true, false, List, eqb}
 use Rattle.std.proofs.Common.{sym, ◌∙◌, eq-eqb, ne_eqb}
 use Rattle.std.proofs.Math.Path.{ap}
-use Rattle.std.proofs.Math.Option.{Option, none, some}
+use Rattle.std.specs.Prelude.{Option, None, Some}
 use Rattle.bits.specs.Bits.{Bits}
 use Rattle.bits.specs.Reader.{Answer, Reader, got, refused, then, ◌>>=◌, field, optional, Local, Tail}
 use Rattle.bits.specs.ReaderLaws.{local_tail, field-local, field_lt, got-local, bind_tail, optional-local, split-then, got-refused, then-then, then_same}
-use Rattle.bits.specs.Placed.{window, Placed, placed, halted}
+use Rattle.std.specs.Prelude.{Result, Ok, Err, option_map, refl}
+use Rattle.bits.specs.Placed.{window, Placed, placed, halted, at, as_by, as_read}
 use Rattle.bits.specs.PlacedLaws.{Gives, told, told-not, gives, gives-not, step, stop, done}
 use Rattle.bits.specs.PlacedTimes.{alike, optional_through}
 use Rattle.bits.specs.declared.bitbuffer.Cursor.{Cursor}
-use Rattle.elements.specs.Numbers.{flag_width, type2_as}
+use Rattle.elements.specs.Numbers.{flag_width, type2}
+use Rattle.bits.specs.declared.pdu_parse_error.PduParseErr.{PduParseErr}
 
 -- the end, with a value that is equal
 pub ends : {A : Type 0} {a b : A} {os : List ℕ} {c : Cursor} → a ≡ b → Gives (got a) os c (placed b c)
 ends e = rw e done
+
+-- what was read, known to be another
+pub known : {A : Type 0} {r : Reader A} {os : List ℕ} {c k : Cursor} {a b : A} → Gives r os c (placed a k) → a ≡ b → Gives r os c (placed b k)
+known {k = k} g e = record { eq = g.eq ∙ ap (λ a. placed a k) e }
 
 -- a field that was read fits its width
 pub field-small : (w : ℕ) {os : List ℕ} {c : Cursor} {v : ℕ} {k : Cursor} → Gives (field w) os c (placed v k) → v < 2 ^ w
@@ -26,7 +32,7 @@ module _ {A B : Type 0} (present : A → B) (absent : B) (r : Reader A) {b : Boo
   wanted : {x : Placed B} → b ≡ true → Gives (r >>= λ a. got (present a)) os c x → Gives (optional present absent b r) os c x
   wanted e g = rw e g
 
-  pub wanted-refused : {n : ℕ} → b ≡ true → Gives r os c (halted n) → Gives (optional present absent b r) os c (halted n)
+  pub wanted-refused : {n : PduParseErr} → b ≡ true → Gives r os c (halted n) → Gives (optional present absent b r) os c (halted n)
   wanted-refused e g = wanted e (stop _ g)
 
   pub wanted_read : {a : A} {k : Cursor} → b ≡ true → Tail r → Gives r os c (placed a k) → Gives (optional present absent b r) os c (placed (present a) k)
@@ -48,54 +54,42 @@ module _ {A B : Type 0} (f : A → B) (r : Reader A) {os : List ℕ} {c : Cursor
       let v : f a ≡ b = cc in
       to a v (gives (p ∙ ap (got a) m) t.on t.used t.same_end))
 
-  pub made-not : {n : ℕ} → Gives (r >>= λ a. got (f a)) os c (halted n) → Gives r os c (halted n)
+  pub made-not : {n : PduParseErr} → Gives (r >>= λ a. got (f a)) os c (halted n) → Gives r os c (halted n)
   made-not {n} e = gives-not (go (r (window os c)) (told-not e))
     where
       go : (x : Answer A) → then x (λ a. got (f a)) ≡ refused n → x ≡ refused n
       go (got a rest) q = got-refused q
       go (refused m) q = cc
 
--- the same of what may be absent
-module _ {A B : Type 0} (f : Option A → B) (b : Bool) (r : Reader A) {os : List ℕ} {c : Cursor} where
-  pub option_of : {X : Type 0} {v : B} {k : Cursor} → Gives (optional (λ a. f (some a)) (f none) b r) os c (placed v k) → Local r
-      → ((o : Option A) → f o ≡ v → Gives (optional some none b r) os c (placed o k) → X) → X
-  option_of e l to =
-      made_of f (optional some none b r) (alike (optional (λ a. f (some a)) (f none) b r) (sym (optional_through f b r (window os c))) e)
-      (local_tail (optional-local some none b r l)) to
+-- ## a number that the code holds as it is
 
-  pub option-not : {n : ℕ} → Gives (optional (λ a. f (some a)) (f none) b r) os c (halted n) → Gives (optional some none b r) os c (halted n)
-  option-not e = made-not f (optional some none b r) (alike (optional (λ a. f (some a)) (f none) b r) (sym (optional_through f b r (window os c))) e)
+itself : {A : Type 0} (o : Option A) → option_map (λ v. v) o ≡ o
+itself None = refl
+itself (Some a) = refl
 
--- what may be absent, and what is read behind it, with the value in either form
-pub option_as : {A B X : Type 0} (f : Option A → B) (b : Bool) (r : Reader A) (h : Option A → Reader X) (k : B → Reader X)
-    → ((o : Option A) (rest : Bits) → h o rest ≡ k (f o) rest)
-    → (bs : Bits) → (optional some none b r >>= h) bs ≡ (optional (λ a. f (some a)) (f none) b r >>= k) bs
-option_as f b r h k e bs =
-    then_same (optional some none b r bs) e ∙ sym (then-then (optional some none b r bs) (λ o. got (f o)) k)
-    ∙ ap (λ z. then z k) (sym (optional_through f b r bs))
+pub by_itself : {A : Type 0} (y : Result (Option A × Cursor) PduParseErr) → as_by (option_map (λ v. v)) y ≡ as_read y
+by_itself (Ok (o, k)) = ap (λ o. placed o k) (itself o)
+by_itself (Err e) = refl
 
--- ## a type 2 element that the code holds as f makes it
+-- what a callee's promise tells of it
+pub from-option : {A : Type 0} {r : Reader (Option A)} {os : List ℕ} {c k : Cursor} {o : Option A} → placed (option_map (λ v. v) o) k ≡ at r os c → Gives r os c (placed o k)
+from-option {k = k} {o = o} e = record { eq = sym e ∙ ap (λ o. placed o k) (itself o) }
 
-module _ {A B : Type 0} (f : Option A → B) (r : Reader A) where
-  -- in the code's form: the P-bit, then the value if it is 1
-  pub type2_through : (bs : Bits) → type2_as f r bs ≡ (field flag_width >>= λ p. optional (λ a. f (some a)) (f none) (eqb p 1) r) bs
-  type2_through bs =
-      then-then (field flag_width bs) _ _ ∙ then_same (field flag_width bs) (λ p rest. sym (optional_through f (eqb p 1) r rest))
+-- ## a type 2 element: the P-bit, then the value if it is 1
 
-  module _ {os : List ℕ} {c : Cursor} where
-    pub type2-there : {p : ℕ} {k : Cursor} {x : Placed B} → Gives (field flag_width) os c (placed p k)
-        → Gives (optional (λ a. f (some a)) (f none) (eqb p 1) r) os k x → Gives (type2_as f r) os c x
-    type2-there e g = alike _ (type2_through (window os c)) (step _ e (local_tail (field-local flag_width)) g)
+module _ {A : Type 0} (r : Reader A) {os : List ℕ} {c : Cursor} where
+  pub type2-ended : {n : PduParseErr} → Gives (field flag_width) os c (halted n) → Gives (type2 r) os c (halted n)
+  type2-ended e = stop _ e
 
-    pub type2-ended : {n : ℕ} → Gives (field flag_width) os c (halted n) → Gives (type2_as f r) os c (halted n)
-    type2-ended e = stop _ (stop _ e)
+  module _ {p : ℕ} {k : Cursor} (e : Gives (field flag_width) os c (placed p k)) where
+    there : {x : Placed (Option A)} → Gives (optional Some None (eqb p 1) r) os k x → Gives (type2 r) os c x
+    there g = step _ e (local_tail (field-local flag_width)) g
 
-    module _ {p : ℕ} {k : Cursor} (e : Gives (field flag_width) os c (placed p k)) where
-      pub type2-refused : p ≡ 1 → {n : ℕ} → Gives r os k (halted n) → Gives (type2_as f r) os c (halted n)
-      type2-refused h g = type2-there e (wanted-refused _ _ r (eq-eqb p 1 h) g)
+    pub type2-refused : p ≡ 1 → {n : PduParseErr} → Gives r os k (halted n) → Gives (type2 r) os c (halted n)
+    type2-refused h g = there (wanted-refused Some None r (eq-eqb p 1 h) g)
 
-      pub type2-read : p ≡ 1 → Tail r → {a : A} {j : Cursor} → Gives r os k (placed a j) → Gives (type2_as f r) os c (placed (f (some a)) j)
-      type2-read h t g = type2-there e (wanted_read _ _ r (eq-eqb p 1 h) t g)
+    pub type2-read : p ≡ 1 → Tail r → {a : A} {j : Cursor} → Gives r os k (placed a j) → Gives (type2 r) os c (placed (Some a) j)
+    type2-read h t g = there (wanted_read Some None r (eq-eqb p 1 h) t g)
 
-      pub type2-absent : (p ≡ 1 → ⊥) → Gives (type2_as f r) os c (placed (f none) k)
-      type2-absent h = type2-there e (unwanted _ _ r (ne_eqb p 1 h))
+    pub type2-absent : (p ≡ 1 → ⊥) → Gives (type2 r) os c (placed None k)
+    type2-absent h = there (unwanted Some None r (ne_eqb p 1 h))

@@ -3,32 +3,34 @@ use Prim.Native.Nat.{ℕ, zero, suc, ◌+◌, ◌≤◌, ◌<◌, ◌^◌}
 use Rattle.std.proofs.Math.Numerals.{add-one}
 use native.Mathlib.Omega.{arith}
 use Rattle.std.specs.Prelude.{◌≡◌, refl, ◌⊎◌, Bool, true, false, cond, List, [], ◌∷◌, length, set, take, drop, leb, eqb}
-use Rattle.std.proofs.Common.{sym, ◌∙◌, ap, ⊎_elim, length-drop, eq-eqb, ne_eqb}
-use Rattle.std.proofs.Math.Option.{Option, none, some}
+use Rattle.std.specs.Prelude.{nat_eq}
+use Rattle.std.specs.Option.{option_eq}
+use Rattle.std.proofs.Common.{sym, ◌∙◌, ap, length-drop, eq-eqb, eqb-true, ne_eqb}
+use Rattle.std.specs.Prelude.{Option, None, Some}
 use Rattle.bits.specs.PduParseError.{buffer_ended}
 use Rattle.bits.specs.Bits.{Bits, number}
-use Rattle.bits.specs.Reader.{Answer, got, refused, Reader, then, ◌>>=◌, field, pass, Tail}
+use Rattle.bits.specs.Reader.{Answer, got, refused, Reader, then, ◌>>=◌, field, pass, optional, Tail}
 use Rattle.bits.specs.ReaderLaws.{zero_one, then-then, then_same, local·rules, bind_tail, split-then, got-refused, field-got, field_lt}
 use Rattle.bits.specs.Placed.{window, Placed, placed, halted, at}
 use Rattle.bits.specs.PlacedLaws.{Gives, told, told-not, gives-not, step, stop, done}
 use Rattle.bits.specs.PlacedTimes.{alike}
 use Rattle.bits.specs.declared.bitbuffer.Cursor.{Cursor}
-use Rattle.elements.specs.Numbers.{u8_of, flag_width}
-use Rattle.elements.specs.Table.{identifier_width, length_width, outside, ends, opens, look, Header, header, used_of, whole, Piece, piece, onward, pieces, counted, is_listed, slot, skip}
+use Rattle.elements.specs.Numbers.{flag_width}
+use Rattle.elements.specs.Table.{identifier_width, length_width, Look, outside, ends, opens, look, Header, header, used_of, whole, Piece, piece, onward, pieces, counted, is_listed, slot, slot_at, skip}
+use Rattle.elements.proofs.NumbersLaws.{never}
 use Rattle.elements.proofs.TableLaws.{Halts, at_end, at-stop, pieces_unfold, pieces-halts, pieces-got, stands_shrinks, slot_tail, skip_tail}
-use Rattle.elements.proofs.PlacedOptional.{type2_through}
 use Rattle.elements.specs.Kinds.{Slot, Element, identifier_of, content}
 use Rattle.elements.proofs.KindsLaws.{content-local}
 use Rattle.elements.specs.Rows.{sized, skipping, generic_row, generic_in, generic_slot, generics, slots_in}
-use Rattle.elements.specs.Answers.{optional_u8, opening}
-use Rattle.elements.specs.declared.typed_pdu_fields.OptionalU8.{OptionalU8}
+use Rattle.elements.specs.Answers.{opening}
 use Rattle.elements.specs.declared.typed_pdu_fields.Generic.{Generic}
 use Rattle.elements.specs.declared.typed_pdu_fields.Row.{Row}
 use Rattle.elements.specs.declared.typed_pdu_fields.Slots.{Slots}
+use Rattle.bits.specs.declared.pdu_parse_error.PduParseErr.{PduParseErr}
 
 -- ## the look and the opening agree
 
-field-refused : (w : ℕ) (bs : Bits) {n : ℕ} → field w bs ≡ refused n → n ≡ buffer_ended
+field-refused : (w : ℕ) (bs : Bits) {n : PduParseErr} → field w bs ≡ refused n → n ≡ buffer_ended
 unfolding field
 field-refused w bs {n} e = go (leb w (length bs)) e
   where
@@ -42,67 +44,72 @@ opening_tail = search local·rules
 abbrev headed : ℕ → ℕ → Header
 headed i n = record { identifier = i; size = n }
 
+-- what the look sees where the opening gives an identifier or none
+abbrev pub looking : Option ℕ → Look
+looking None = ends
+looking (Some i) = opens i
+
 -- what the opening of bs tells, with rest behind it
-record Opened (bs : Bits) (o : OptionalU8) (rest : Bits) : Type 0 where
-  looks : look bs ≡ cond o.present (opens o.value) ends
-  heads : o.present ≡ true → header bs ≡ (field length_width >>= λ n. got (headed o.value n)) rest
+record Opened (bs : Bits) (o : Option ℕ) (rest : Bits) : Type 0 where
+  looks : look bs ≡ looking o
+  heads : (i : ℕ) → o ≡ Some i → header bs ≡ (field length_width >>= λ n. got (headed i n)) rest
   less : length rest < length bs
 
-opened : (bs : Bits) {o : OptionalU8} {rest : Bits} → opening bs ≡ got o rest → Opened bs o rest
+opened : (bs : Bits) {o : Option ℕ} {rest : Bits} → opening bs ≡ got o rest → Opened bs o rest
 unfolding look header
-opened bs {o} {rest} e = split-then (field flag_width bs) _ (sym (type2_through u8_of (field identifier_width) bs) ∙ e) (λ m mid p q. go m mid p (field_lt flag_width bs p) q)
+opened bs {o} {rest} e = split-then (field flag_width bs) _ e (λ m mid p q. go m mid p (field_lt flag_width bs p) q)
   where
     shorter : (m : ℕ) (mid : Bits) → field flag_width bs ≡ got m mid → length mid < length bs
     shorter m mid p = let g = field-got flag_width bs p in omega (arith, g.enough, ap length g.left, length-drop flag_width bs)
 
-    go : (m : ℕ) (mid : Bits) → field flag_width bs ≡ got m mid → m < 2 ^ flag_width → optional_u8 (eqb m 1) (field identifier_width) mid ≡ got o rest → Opened bs o rest
+    go : (m : ℕ) (mid : Bits) → field flag_width bs ≡ got m mid → m < 2 ^ flag_width → optional Some None (eqb m 1) (field identifier_width) mid ≡ got o rest → Opened bs o rest
     go zero mid p l q =
-        let h : u8_of none ≡ o = cc in
+        let h : None ≡ o = cc in
         let s : mid ≡ rest = cc in
         rw (← h, ← s) (record {
           looks = rw p;
-          heads = λ t. zero_one (cc);
+          heads = λ i t. zero_one (cc);
           less = shorter zero mid p;
         })
     go (suc zero) mid p l q = split-then (field identifier_width mid) _ q (λ i end p' q'.
-        let h : u8_of (some i) ≡ o = cc in
+        let h : Some i ≡ o = cc in
         let s : end ≡ rest = cc in
         let g = field-got identifier_width mid p' in
         rw (← h, ← s) (record {
           looks = rw p (rw p');
-          heads = λ t. rw p (rw p');
+          heads = λ j t. let same : i ≡ j = cc in rw p (rw (p', same));
           less = omega (arith, shorter 1 mid p, g.enough, ap length g.left, length-drop identifier_width mid);
         }))
     go (suc (suc m)) mid p l q = absurd (omega arith)
 
 -- it is refused where the look sees nothing
-opening-outside : (bs : Bits) {n : ℕ} → opening bs ≡ refused n → (look bs ≡ outside) × (n ≡ buffer_ended)
+opening-outside : (bs : Bits) {n : PduParseErr} → opening bs ≡ refused n → (look bs ≡ outside) × (n ≡ buffer_ended)
 unfolding look
-opening-outside bs {n} e = first (field flag_width bs) refl (sym (type2_through u8_of (field identifier_width) bs) ∙ e)
+opening-outside bs {n} e = first (field flag_width bs) refl e
   where
-    second : (mid : Bits) (x : Answer ℕ) → field identifier_width mid ≡ x → then x (λ i. got (u8_of (some i))) ≡ refused n → (x ≡ refused n) × (n ≡ buffer_ended)
+    second : (mid : Bits) (x : Answer ℕ) → field identifier_width mid ≡ x → then x (λ i. got (Some i)) ≡ refused n → (x ≡ refused n) × (n ≡ buffer_ended)
     second mid (got i end) p e = got-refused e
     second mid (refused k) p e = let h : k ≡ n = cc in (ap refused h, sym h ∙ field-refused identifier_width mid p)
 
-    go : (m : ℕ) (mid : Bits) → field flag_width bs ≡ got m mid → m < 2 ^ flag_width → optional_u8 (eqb m 1) (field identifier_width) mid ≡ refused n → (look bs ≡ outside) × (n ≡ buffer_ended)
+    go : (m : ℕ) (mid : Bits) → field flag_width bs ≡ got m mid → m < 2 ^ flag_width → optional Some None (eqb m 1) (field identifier_width) mid ≡ refused n → (look bs ≡ outside) × (n ≡ buffer_ended)
     go zero mid p l q = got-refused q
     go (suc zero) mid p l q = let s = second mid (field identifier_width mid) refl q in (rw p (rw s.0), s.1)
     go (suc (suc m)) mid p l q = absurd (omega arith)
 
-    first : (x : Answer ℕ) → field flag_width bs ≡ x → then x (λ p. optional_u8 (eqb p 1) (field identifier_width)) ≡ refused n → (look bs ≡ outside) × (n ≡ buffer_ended)
+    first : (x : Answer ℕ) → field flag_width bs ≡ x → then x (λ p. optional Some None (eqb p 1) (field identifier_width)) ≡ refused n → (look bs ≡ outside) × (n ≡ buffer_ended)
     first (got m mid) p e = go m mid p (field_lt flag_width bs p) e
     first (refused k) p e = let h : k ≡ n = cc in (rw p, sym h ∙ field-refused flag_width bs p)
 
-pub opening_unseen : {os : List ℕ} {c : Cursor} {n : ℕ} → Gives opening os c (halted n) → look (window os c) ≡ outside
+pub opening_unseen : {os : List ℕ} {c : Cursor} {n : PduParseErr} → Gives opening os c (halted n) → look (window os c) ≡ outside
 opening_unseen {os} {c} e = (opening-outside (window os c) (told-not e)).0
 
-module _ {os : List ℕ} {c k : Cursor} {o : OptionalU8} (e : Gives opening os c (placed o k)) where
+module _ {os : List ℕ} {c k : Cursor} {o : Option ℕ} (e : Gives opening os c (placed o k)) where
   -- what it tells at a cursor
   at-opening : Opened (window os c) o (window os k)
   at-opening = opened (window os c) (told opening_tail e).said
 
   -- what the look sees there
-  pub opening-looks : look (window os c) ≡ cond o.present (opens o.value) ends
+  pub opening-looks : look (window os c) ≡ looking o
   opening-looks = at-opening.looks
 
   -- the place moves, and less is left
@@ -113,41 +120,54 @@ module _ {os : List ℕ} {c k : Cursor} {o : OptionalU8} (e : Gives opening os c
   behind : {B : Type 0} {r : Reader B} (r' : Reader B) {x : Placed B} → r (window os c) ≡ r' (window os k) → Gives r' os k x → Gives r os c x
   behind {r = r} r' q g = alike (opening >>= λ o. r') (q ∙ sym (then_is (told opening_tail e).said)) (step (λ o. r') e opening_tail g)
     where
-      then_is : {y : Answer OptionalU8} → y ≡ got o (window os k) → then y (λ o. r') ≡ r' (window os k)
+      then_is : {y : Answer (Option ℕ)} → y ≡ got o (window os k) → then y (λ o. r') ≡ r' (window os k)
       then_is p = rw p
+
+-- an identifier compared with another
+pub same-as : (o : Option ℕ) {i : ℕ} → true ≡ option_eq nat_eq o (Some i) → o ≡ Some i
+same-as None e = zero_one (cc)
+same-as (Some j) {i} e = ap Some (eqb-true j i (sym e))
+
+pub other-than : (o : Option ℕ) {i : ℕ} → false ≡ option_eq nat_eq o (Some i) → o ≡ Some i → ⊥
+other-than None e p = zero_one (cc)
+other-than (Some j) {i} e p = let h : j ≡ i = cc in never (e ∙ eq-eqb j i h)
 
 -- ## one slot, and what follows it
 
 module _ {S A B : Type 0} (identifier : S → ℕ) (content : S → ℕ → Reader A) (s : S) (f : Option A → Reader B) {os : List ℕ} {c : Cursor} where
-  pub slot-outside : {n : ℕ} → Gives opening os c (halted n) → Gives (slot identifier content s >>= f) os c (halted n)
+  pub slot-outside : {n : PduParseErr} → Gives opening os c (halted n) → Gives (slot identifier content s >>= f) os c (halted n)
   slot-outside e = let l = opening-outside (window os c) (told-not e) in gives-not (rw (l.0, l.1))
 
-  module _ {k : Cursor} {o : OptionalU8} (e : Gives opening os c (placed o k)) where
+  module _ {k : Cursor} {o : Option ℕ} (e : Gives opening os c (placed o k)) where
     -- M-bit 0, or another identifier
-    pub slot-ends : o.present ≡ false → {x : Placed B} → Gives (f none) os c x → Gives (slot identifier content s >>= f) os c x
-    slot-ends p g = alike (f none) (rw (opening-looks e) (rw p)) g
-
-    pub slot-other : o.present ≡ true → (o.value ≡ identifier s → ⊥) → {x : Placed B} → Gives (f none) os c x → Gives (slot identifier content s >>= f) os c x
-    slot-other p h g = alike (f none) (rw (opening-looks e) (rw p (rw (ne_eqb _ _ h)))) g
-
-    -- either of the two
-    pub slot-absent : {P Q : Type 0} → P ⊎ Q → (P → (o.present ≡ true) × (o.value ≡ identifier s → ⊥)) → (Q → o.present ≡ false) → {x : Placed B}
-        → Gives (f none) os c x → Gives (slot identifier content s >>= f) os c x
-    slot-absent came other over g = ⊎_elim (λ w. slot-other (other w).0 (other w).1 g) (λ v. slot-ends (over v) g) came
+    pub slot-absent : (o ≡ Some (identifier s) → ⊥) → {x : Placed B} → Gives (f None) os c x → Gives (slot identifier content s >>= f) os c x
+    slot-absent h g = alike (f None) (rw (opening-looks e) (go o h)) g
+      where
+        go : (o : Option ℕ) → (o ≡ Some (identifier s) → ⊥) → then (slot_at identifier content s (looking o) (window os c)) f ≡ f None (window os c)
+        go None h = refl
+        go (Some i) h = rw (ne_eqb i (identifier s) (λ q. h (ap Some q)))
 
     -- THE ELEMENT IS THERE: its content is read from its length on, and the rest behind it
-    pub slot-there : o.present ≡ true → o.value ≡ identifier s → {x : Placed B} → Gives (sized (content s) >>= λ a. f (some a)) os k x
+    pub slot-there : o ≡ Some (identifier s) → {x : Placed B} → Gives (sized (content s) >>= λ a. f (Some a)) os k x
         → Gives (slot identifier content s >>= f) os c x
-    slot-there p h g =
-        behind e (sized (content s) >>= λ a. f (some a))
-        (rw (opening-looks e) (rw p (rw (eq-eqb _ _ h) (rw ((at-opening e).heads p) size)))) g
+    slot-there h g =
+        behind e (sized (content s) >>= λ a. f (Some a))
+        (rw (opening-looks e) (rw h (rw (eq-eqb (identifier s) (identifier s) refl) (rw ((at-opening e).heads _ h) size)))) g
       where
         y : Answer ℕ
         y = field length_width (window os k)
 
-        size : then (then (then (then y (λ n. got (headed o.value n))) (λ h. content s h.size)) (λ a. got (some a))) f
-            ≡ then (then y (content s)) (λ a. f (some a))
-        size = ap (λ (z : Answer A). then (then z (λ a. got (some a))) f) (then-then y _ _) ∙ then-then (then y (content s)) _ _
+        size : then (then (then (then y (λ n. got (headed (identifier s) n))) (λ h. content s h.size)) (λ a. got (Some a))) f
+            ≡ then (then y (content s)) (λ a. f (Some a))
+        size = ap (λ (z : Answer A). then (then z (λ a. got (Some a))) f) (then-then y _ _) ∙ then-then (then y (content s)) _ _
+
+-- a reader, with nothing behind it
+pub alone : {A : Type 0} {r : Reader A} {os : List ℕ} {c : Cursor} {x : Placed A} → Gives (r >>= got) os c x → Gives r os c x
+alone {A} {r} g = alike (r >>= got) (sym (ends-there (r (window _ _)))) g
+  where
+    ends-there : (y : Answer A) → then y got ≡ y
+    ends-there (got a rest) = refl
+    ends-there (refused n) = refl
 
 -- a content's value made into another in one step or in two
 pub sized-made : {A B C : Type 0} (r : ℕ → Reader A) (f : A → B) (g : B → C) (bs : Bits)
@@ -164,7 +184,7 @@ pub body_tail : Tail body
 body_tail = search local·rules
 
 -- it moves the place, and leaves less
-pub body-on : {os : List ℕ} {c k j : Cursor} {o : OptionalU8} → Gives opening os c (placed o k) → Gives body os k (placed tt j)
+pub body-on : {os : List ℕ} {c k j : Cursor} {o : Option ℕ} → Gives opening os c (placed o k) → Gives body os k (placed tt j)
     → (c.at < j.at) × (length (window os j) < length (window os c))
 body-on e g = let (a, l) = opening_on e in let t = told body_tail g in (omega arith, omega arith)
 
@@ -177,7 +197,7 @@ module _ (listed : ℕ → Bool) where
   tally-start bs = then_same (pieces listed bs) (λ ps rest. let h : 0 + length ps ≡ length ps = omega arith in rw h)
 
   module _ (n : ℕ) {os : List ℕ} {c : Cursor} where
-    pub tally-outside : {m : ℕ} → Gives opening os c (halted m) → Gives (tally n) os c (halted m)
+    pub tally-outside : {m : PduParseErr} → Gives opening os c (halted m) → Gives (tally n) os c (halted m)
     tally-outside e =
         let l = opening-outside (window os c) (told-not e) in
         gives-not (rw (pieces_unfold listed (window os c)) (rw (l.0, l.1)))
@@ -187,20 +207,20 @@ module _ (listed : ℕ → Bool) where
         let all : n + 0 ≡ n = omega arith in
         alike (got n) (rw (pieces-halts listed (window os c) h) (rw all)) done
 
-    module _ {k : Cursor} {o : OptionalU8} (e : Gives opening os c (placed o k)) where
+    module _ {k : Cursor} {o : Option ℕ} (e : Gives opening os c (placed o k)) where
       -- they end before M-bit 0 and before a listed identifier
-      pub tally-ends : o.present ≡ false → Gives (tally n) os c (placed n c)
+      pub tally-ends : o ≡ None → Gives (tally n) os c (placed n c)
       tally-ends p = halts (at_end (rw p at (opening-looks e)))
 
-      pub tally-listed : o.present ≡ true → listed o.value ≡ true → Gives (tally n) os c (placed n c)
-      tally-listed p t = halts (at-stop o.value (rw p at (opening-looks e)) t)
+      pub tally-listed : {i : ℕ} → o ≡ Some i → listed i ≡ true → Gives (tally n) os c (placed n c)
+      tally-listed {i} p t = halts (at-stop i (rw p at (opening-looks e)) t)
 
       -- ONE MORE
-      pub tally-on : o.present ≡ true → listed o.value ≡ false → {x : Placed ℕ} → Gives (body >>= λ z. tally (n + 1)) os k x → Gives (tally n) os c x
+      pub tally-on : {i : ℕ} → o ≡ Some i → listed i ≡ false → {x : Placed ℕ} → Gives (body >>= λ z. tally (n + 1)) os k x → Gives (tally n) os c x
       unfolding whole piece
-      tally-on p t g =
+      tally-on {i} p t g =
           behind e (body >>= λ z. tally (n + 1))
-          (rw (pieces_unfold listed (window os c)) (rw (opening-looks e) (rw p (rw t (rw ((at-opening e).heads p) (size (field length_width (window os k)))))))) g
+          (rw (pieces_unfold listed (window os c)) (rw (opening-looks e) (rw p (rw t (rw ((at-opening e).heads _ p) (size (field length_width (window os k)))))))) g
         where
           piece_of : ℕ → Bits → Piece
           piece_of i rest = record { identifier = i; bits = used_of (window os c) rest }
@@ -210,15 +230,15 @@ module _ (listed : ℕ → Bool) where
           more p (refused m) = refl
 
           passes : (i : ℕ) (y : Answer Unit)
-              → then (onward (then (then (then y (λ z. got i)) (λ i rest. got (piece_of i rest) rest)) (λ p. got (some p))) (pieces listed)) (λ ps. got (n + length ps))
+              → then (onward (then (then (then y (λ z. got i)) (λ i rest. got (piece_of i rest) rest)) (λ p. got (Some p))) (pieces listed)) (λ ps. got (n + length ps))
               ≡ then y (λ z. tally (n + 1))
           passes i (got z rest) = more (piece_of i rest) (pieces listed rest)
           passes i (refused m) = refl
 
           size : (y : Answer ℕ)
-              → then (onward (then (then (then (then y (λ n. got (headed o.value n))) (λ h. pass h.size >>= λ z. got h.identifier)) (λ i rest. got (piece_of i rest) rest)) (λ p. got (some p))) (pieces listed)) (λ ps. got (n + length ps))
+              → then (onward (then (then (then (then y (λ n. got (headed i n))) (λ h. pass h.size >>= λ z. got h.identifier)) (λ i rest. got (piece_of i rest) rest)) (λ p. got (Some p))) (pieces listed)) (λ ps. got (n + length ps))
               ≡ then (then y pass) (λ z. tally (n + 1))
-          size (got m rest) = passes o.value (pass m rest)
+          size (got m rest) = passes i (pass m rest)
           size (refused m) = refl
 
   -- each element passed is a bit at least
@@ -290,11 +310,11 @@ module _ (table : List Slot) (b : Bool) where
       turns : {x : Placed Slots} → Gives (turn gs i n r rs) os c x → Gives (resumed gs i n all) os c x
       turns g = rw q (alike (turn gs i n r rs) (turn_is gs i n r rs (window os c)) g)
 
-      pub resumed_unskipped : {k : ℕ} → Gives (skipping table b) os c (halted k) → Gives (resumed gs i n all) os c (halted k)
+      pub resumed_unskipped : {k : PduParseErr} → Gives (skipping table b) os c (halted k) → Gives (resumed gs i n all) os c (halted k)
       resumed_unskipped e = turns (stop _ e)
 
       module _ {m : ℕ} {j : Cursor} (e : Gives (skipping table b) os c (placed m j)) where
-        pub resumed_broken : {k : ℕ} → Gives (generic_slot r) os j (halted k) → Gives (resumed gs i n all) os c (halted k)
+        pub resumed_broken : {k : PduParseErr} → Gives (generic_slot r) os j (halted k) → Gives (resumed gs i n all) os c (halted k)
         resumed_broken f = turns (step _ e skipping_tail (stop _ f))
 
         pub resumed-on : {g : Generic} {k : Cursor} → Gives (generic_slot r) os j (placed g k)

@@ -2,7 +2,7 @@
 use Rattle.std.specs.Prelude.{ℕ, ◌^◌, ◌<◌, ◌≡◌, refl, Bool, true, false, not, ◌&&◌, length, ltb}
 use Rattle.std.proofs.Common.{sym, ap, ◌∙◌, true≢false, lit<}
 use Rattle.std.proofs.Math.Bool.{and-eq-true_iff}
-use Rattle.std.proofs.Math.Option.{Option, none, some}
+use Rattle.std.specs.Prelude.{Option, None, Some}
 use mathlib.Core.List.{List, [], ◌∷◌, ◌++◌, append_assoc}
 use borrow.Author.Tests.{eq-eqb, ne_eqb, ltb-true, not-true}
 use Rattle.bits.specs.Bits.{Bits, digits}
@@ -48,12 +48,12 @@ module _ {S : Type 0} (identifier : S → ℕ) where
 
 module _ {S A : Type 0} (normal : S → A → A) where
   abbrev pub normal_slot : S → Option A → Option A
-  normal_slot s none = none
-  normal_slot s (some a) = some (normal s a)
+  normal_slot s None = None
+  normal_slot s (Some a) = Some (normal s a)
 
   unfoldable pub normal_slots : List S → List (Option A) → List (Option A)
   normal_slots [] vs = []
-  normal_slots (s ∷ ss) [] = none ∷ normal_slots ss []
+  normal_slots (s ∷ ss) [] = None ∷ normal_slots ss []
   normal_slots (s ∷ ss) (v ∷ vs) = normal_slot s v ∷ normal_slots ss vs
 
 module _ {S A : Type 0} (content : S → ℕ → Reader A) (content_bits : S → A → Bits) (normal : S → A → A) where
@@ -63,8 +63,8 @@ module _ {S A : Type 0} (content : S → ℕ → Reader A) (content_bits : S →
     pub reads : (rest : Bits) → content s (length (content_bits s a)) (content_bits s a ++ rest) ≡ got (normal s a) rest
 
   abbrev pub SlotBack : S → Option A → Type 0
-  SlotBack s none = Unit
-  SlotBack s (some a) = Back s a
+  SlotBack s None = Unit
+  SlotBack s (Some a) = Back s a
 
   abbrev pub SlotsBack : List S → List (Option A) → Type 0
   SlotsBack [] vs = Unit
@@ -73,7 +73,7 @@ module _ {S A : Type 0} (content : S → ℕ → Reader A) (content_bits : S →
 
 module _ {S A : Type 0} (identifier : S → ℕ) (content : S → ℕ → Reader A) where
   -- a slot is absent where an element of a later slot stands, or the end
-  slot-absent : (s : S) (ss : List S) → Apart identifier s ss → (bs : Bits) → Halts (is_listed identifier ss) (look bs) → slot identifier content s bs ≡ got none bs
+  slot-absent : (s : S) (ss : List S) → Apart identifier s ss → (bs : Bits) → Halts (is_listed identifier ss) (look bs) → slot identifier content s bs ≡ got None bs
   slot-absent s ss a bs (at_end l) = rw l
   slot-absent s ss a bs (at-stop i l t) = rw l (rw (ne_eqb i (identifier s) (λ e. true≢false (sym t ∙ ap (is_listed identifier ss) e ∙ a.new))))
 
@@ -87,8 +87,8 @@ module _ {S A : Type 0} (identifier : S → ℕ) (content : S → ℕ → Reader
 
     slot-back : (s : S) (ss : List S) → Apart identifier s ss → (v : Option A) → SlotBack content content_bits normal s v → (bs : Bits) → Halts (is_listed identifier ss) (look bs)
         → slot identifier content s (slot_bits identifier content_bits s v ++ bs) ≡ got (normal_slot normal s v) bs
-    slot-back s ss p none b bs h = slot-absent s ss p bs h
-    slot-back s ss p (some a) b bs h =
+    slot-back s ss p None b bs h = slot-absent s ss p bs h
+    slot-back s ss p (Some a) b bs h =
         rw (look-opens (identifier s) (content_bits s a) bs p.small) (rw (eq-eqb (identifier s) (identifier s) refl) (rw (element-back s a bs p.small b)))
 
     -- the table's bits begin with one of its elements, or with the closing M-bit
@@ -97,8 +97,8 @@ module _ {S A : Type 0} (identifier : S → ℕ) (content : S → ℕ → Reader
     unfolding table_bits
     table-halts [] d vs rest = at_end (look-ends rest)
     table-halts (s ∷ ss) d [] rest = halts_later identifier s ss (table-halts ss (apart identifier s ss d).others [] rest)
-    table-halts (s ∷ ss) d (none ∷ vs) rest = halts_later identifier s ss (table-halts ss (apart identifier s ss d).others vs rest)
-    table-halts (s ∷ ss) d (some a ∷ vs) rest =
+    table-halts (s ∷ ss) d (None ∷ vs) rest = halts_later identifier s ss (table-halts ss (apart identifier s ss d).others vs rest)
+    table-halts (s ∷ ss) d (Some a ∷ vs) rest =
         rw (append_assoc (element_bits (identifier s) (content_bits s a)) (table_bits identifier content_bits ss vs) rest)
         (at-stop (identifier s) (look-opens (identifier s) (content_bits s a) _ (apart identifier s ss d).small) (listed-first identifier s ss))
 

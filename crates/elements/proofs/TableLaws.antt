@@ -4,7 +4,7 @@ use Rattle.std.proofs.Common.{arith, sym, ap, subst, ◌∙◌, length-append, t
 use Rattle.std.specs.Prelude.{◌≡◌, Bool, true, cond, eqb}
 use Rattle.std.proofs.Math.Path.{refl}
 use Rattle.std.proofs.Math.Bool.{false, or-true}
-use Rattle.std.proofs.Math.Option.{Option, none, some}
+use Rattle.std.specs.Prelude.{Option, None, Some}
 use mathlib.Core.List.{List, [], ◌∷◌, ◌++◌, map, append-nil}
 use Rattle.std.proofs.Math.ListN.{length}
 use Rattle.bits.specs.PduParseError.{buffer_ended, invalid_trailing_mbit_value}
@@ -12,6 +12,7 @@ use Rattle.bits.specs.Bits.{Bits}
 use Rattle.bits.specs.Reader.{Answer, got, refused, Reader, then, ◌>>=◌, field, pass, unless, Used, Local, Tail}
 use Rattle.bits.specs.ReaderLaws.{zero_one, refused-got, split-then, local-more, local·rules, field-local, got-local, refused-local, bind_local, bind_tail}
 use Rattle.elements.specs.Table.{mbit_width, identifier_width, length_width, Look, outside, ends, opens, seen, looked, look, Header, header, closing, used_of, whole, Piece, piece, next_if, next_at_lem, next, onward, many_of, many, pieces, Counted, counted, element, slot_if, slot_at, slot, skip, is_listed, scan}
+use Rattle.bits.specs.declared.pdu_parse_error.PduParseErr.{PduParseErr}
 
 ends-outside : {P : Type 0} → ends ≡ outside → P
 ends-outside e = zero_one (cc)
@@ -79,7 +80,7 @@ bind_sees r f s l = record {
   inside = λ bs b rest e. split-then (r bs) f e (λ a mid p q. s.inside bs a mid p);
 }
 
-refused_sees : {A : Type 0} (n : ℕ) → Sees {A = A} (λ bs. refused n)
+refused_sees : {A : Type 0} (n : PduParseErr) → Sees {A = A} (λ bs. refused n)
 refused_sees n = record { local = refused-local n; inside = λ bs a rest e. refused-got e }
 
 -- ## by what the look sees
@@ -87,7 +88,7 @@ refused_sees n = record { local = refused-local n; inside = λ bs a rest e. refu
 -- TWO SLOTS with one identifier: what holds outside, of absent elements and, where the identifier is seen, of those that are there, holds of both
 pub two_slots : {S A T B : Type 0} (identifier : S → ℕ) (content : S → ℕ → Reader A) (s : S) (identifier' : T → ℕ) (content' : T → ℕ → Reader B) (t : T)
     → identifier s ≡ identifier' t → (R : Reader (Option A) → Reader (Option B) → Type 0)
-    → R (λ bs. refused buffer_ended) (λ bs. refused buffer_ended) → R (got none) (got none) → (l : Look)
+    → R (λ bs. refused buffer_ended) (λ bs. refused buffer_ended) → R (got None) (got None) → (l : Look)
     → (l ≡ opens (identifier s) → R (slot_if identifier content s true) (slot_if identifier' content' t true))
     → R (slot_at identifier content s l) (slot_at identifier' content' t l)
 two_slots identifier content s identifier' content' t same R out absent outside there = out
@@ -101,7 +102,7 @@ two_slots identifier content s identifier' content' t same R out absent (opens j
 
 -- one slot
 pub slot_cases : {S A : Type 0} (identifier : S → ℕ) (content : S → ℕ → Reader A) (s : S) (P : Reader (Option A) → Type 0)
-    → P (λ bs. refused buffer_ended) → P (got none) → (l : Look) → (l ≡ opens (identifier s) → P (slot_if identifier content s true)) → P (slot_at identifier content s l)
+    → P (λ bs. refused buffer_ended) → P (got None) → (l : Look) → (l ≡ opens (identifier s) → P (slot_if identifier content s true)) → P (slot_at identifier content s l)
 slot_cases identifier content s P = two_slots identifier content s identifier content s refl (λ r q. P r)
 
 module _ (stop : ℕ → Bool) where
@@ -111,7 +112,7 @@ module _ (stop : ℕ → Bool) where
     at-stop : (i : ℕ) → l ≡ opens i → stop i ≡ true → Halts l
 
   -- the next element
-  pub next_cases : (P : Reader (Option Piece) → Type 0) → P (λ bs. refused buffer_ended) → (l : Look) → (Halts l → P (got none))
+  pub next_cases : (P : Reader (Option Piece) → Type 0) → P (λ bs. refused buffer_ended) → (l : Look) → (Halts l → P (got None))
       → ((i : ℕ) → l ≡ opens i → stop i ≡ false → P (next_if false)) → P (next_at_lem stop l)
   next_cases P out outside halts on = out
   next_cases P out ends halts on = halts (at_end refl)
@@ -246,7 +247,7 @@ piece_tail = record {
 
 module _ {A : Type 0} (r : Reader (Option A)) where
   -- where each turn that gives something uses a bit
-  module _ (shrinks : (bs : Bits) (a : A) (rest : Bits) → r bs ≡ got (some a) rest → length rest < length bs) where
+  module _ (shrinks : (bs : Bits) (a : A) (rest : Bits) → r bs ≡ got (Some a) rest → length rest < length bs) where
     enough : (m n : ℕ) (bs : Bits) → length bs < m → length bs < n → many_of m r bs ≡ many_of n r bs
     unfolding many_of
     enough zero n bs hm hn = absurd (omega arith)
@@ -255,8 +256,8 @@ module _ {A : Type 0} (r : Reader (Option A)) where
       where
         go : (x : Answer (Option A)) → r bs ≡ x → ((rest : Bits) → length rest < m → length rest < n → many_of m r rest ≡ many_of n r rest)
             → onward x (many_of m r) ≡ onward x (many_of n r)
-        go (got none rest) e ih = refl
-        go (got (some a) rest) e ih = let h = shrinks bs a rest e in rw (ih rest (omega arith) (omega arith))
+        go (got None rest) e ih = refl
+        go (got (Some a) rest) e ih = let h = shrinks bs a rest e in rw (ih rest (omega arith) (omega arith))
         go (refused k) e ih = refl
 
     -- one turn, and then the others
@@ -265,8 +266,8 @@ module _ {A : Type 0} (r : Reader (Option A)) where
     many_unfold bs = go (r bs) refl
       where
         go : (x : Answer (Option A)) → r bs ≡ x → onward x (many_of (length bs) r) ≡ onward x (λ rest. many_of (suc (length rest)) r rest)
-        go (got none rest) e = refl
-        go (got (some a) rest) e = let h = shrinks bs a rest e in rw (enough (length bs) (suc (length rest)) rest (omega arith) (omega arith))
+        go (got None rest) e = refl
+        go (got (Some a) rest) e = let h = shrinks bs a rest e in rw (enough (length bs) (suc (length rest)) rest (omega arith) (omega arith))
         go (refused k) e = refl
 
   many_of_tail : Tail r → (n : ℕ) → Tail (many_of n r)
@@ -276,8 +277,8 @@ module _ {A : Type 0} (r : Reader (Option A)) where
     where
       go : (bs : Bits) (xs : List A) (rest : Bits) (x : Answer (Option A)) → r bs ≡ x → onward x (many_of n r) ≡ got xs rest → Tail (many_of n r)
           → (used : Bits) × (bs ≡ used ++ rest)
-      go bs xs rest (got none mid) p e ih = let h : mid ≡ rest = cc in rw h at (t.at bs none mid p)
-      go bs xs rest (got (some a) mid) p e ih =
+      go bs xs rest (got None mid) p e ih = let h : mid ≡ rest = cc in rw h at (t.at bs None mid p)
+      go bs xs rest (got (Some a) mid) p e ih =
           (bind_tail r (λ o. many_of n r >>= λ xs. got (a ∷ xs)) t (λ o. search (bind_tail, local·rules))).at bs xs rest (rw p e)
       go bs xs rest (refused k) p e ih = refused-got e
 
@@ -287,15 +288,15 @@ module _ {A : Type 0} (r : Reader (Option A)) where
 
 module _ (stop : ℕ → Bool) where
   abbrev NextGot : Bits → Option Piece → Bits → Type 0
-  NextGot bs none rest = Halts stop (look bs) × (rest ≡ bs)
-  NextGot bs (some p) rest = Stands bs p rest × (stop p.identifier ≡ false)
+  NextGot bs None rest = Halts stop (look bs) × (rest ≡ bs)
+  NextGot bs (Some p) rest = Stands bs p rest × (stop p.identifier ≡ false)
 
   next-got : (bs : Bits) {o : Option Piece} {rest : Bits} → next stop bs ≡ got o rest → NextGot bs o rest
   next-got bs {o} {rest} =
       next_cases stop (λ r. r bs ≡ got o rest → NextGot bs o rest) (λ e. refused-got e) (look bs)
-      (λ h e. let n : none ≡ o = cc in rw (← n) (h, cc))
+      (λ h e. let n : None ≡ o = cc in rw (← n) (h, cc))
       (λ i l t e. split-then (piece bs) _ e (λ p m x y.
-      let n : some p ≡ o = cc in
+      let n : Some p ≡ o = cc in
       let h : m ≡ rest = cc in
       let g = piece-stands bs l (rw h at x) in
       rw (← n) (g.0, rw (← g.1) t)))
@@ -335,11 +336,11 @@ module _ (stop : ℕ → Bool) where
   pieces-got bs {ps} {rest} e = go (next stop bs) refl (rw (pieces_unfold bs) at e)
     where
       go : (x : Answer (Option Piece)) → next stop bs ≡ x → onward x (pieces stop) ≡ got ps rest → PiecesGot bs ps rest
-      go (got none mid) q e =
+      go (got None mid) q e =
           let n : [] ≡ ps = cc in
           let h : mid ≡ rest = cc in
           rw (← n) (next-got bs (rw h at q))
-      go (got (some p) mid) q e = split-then (pieces stop mid) _ e (λ qs m x y.
+      go (got (Some p) mid) q e = split-then (pieces stop mid) _ e (λ qs m x y.
           let n : p ∷ qs ≡ ps = cc in
           let h : m ≡ rest = cc in
           let g = next-got bs q in
@@ -380,7 +381,7 @@ module _ {S A : Type 0} (identifier : S → ℕ) (content : S → ℕ → Reader
 
   -- before the closing M-bit nothing is skipped, and no slot holds anything
   pub scan-empty : (listed : ℕ → Bool) (b : Bool) (ss : List S) (bs : Bits) {rest : Bits} → closing bs ≡ got tt rest
-      → scan identifier content listed b ss bs ≡ got (counted 0 (map (λ s. none) ss)) rest
+      → scan identifier content listed b ss bs ≡ got (counted 0 (map (λ s. None) ss)) rest
   unfolding scan
   scan-empty listed b ss bs {rest} e = go ss
     where
@@ -390,7 +391,7 @@ module _ {S A : Type 0} (identifier : S → ℕ) (content : S → ℕ → Reader
       skipped : skip listed b bs ≡ got 0 bs
       skipped = skip-halts listed b bs (at_end l)
 
-      go : (ss : List S) → scan identifier content listed b ss bs ≡ got (counted 0 (map (λ s. none) ss)) rest
+      go : (ss : List S) → scan identifier content listed b ss bs ≡ got (counted 0 (map (λ s. None) ss)) rest
       go [] = rw (skipped, e)
       go (s ∷ ss) = rw (skipped, l, go ss)
 
@@ -399,8 +400,8 @@ module _ {S A : Type 0} (identifier : S → ℕ) (content : S → ℕ → Reader
 module _ {S A : Type 0} (P : S → A → Type 0) where
   -- of a slot's value, if it is present
   abbrev pub InSlot : S → Option A → Type 0
-  InSlot s none = Unit
-  InSlot s (some a) = P s a
+  InSlot s None = Unit
+  InSlot s (Some a) = P s a
 
   -- ALL SLOTS: as many values as slots, and P holds of each that is present
   pub data AllSlots : List S → List (Option A) → Type 0 where
@@ -411,10 +412,10 @@ module _ {S A : Type 0} (identifier : S → ℕ) (content : S → ℕ → Reader
     (holds : (s : S) (n : ℕ) (bs : Bits) (a : A) (rest : Bits) → content s n bs ≡ got a rest → P s a) where
   slot-holds : (s : S) (bs : Bits) {o : Option A} {rest : Bits} → slot identifier content s bs ≡ got o rest → InSlot P s o
   slot-holds s bs {o} {rest} =
-      slot_cases identifier content s (λ r. r bs ≡ got o rest → InSlot P s o) (λ e. refused-got e) (λ e. let n : none ≡ o = cc in rw (← n) tt) (look bs) (λ l e.
+      slot_cases identifier content s (λ r. r bs ≡ got o rest → InSlot P s o) (λ e. refused-got e) (λ e. let n : None ≡ o = cc in rw (← n) tt) (look bs) (λ l e.
       split-then (element identifier content s bs) _ e (λ a r p q.
       split-then (header bs) _ p (λ h r' p' q'.
-      let n : some a ≡ o = cc in
+      let n : Some a ≡ o = cc in
       rw (← n) (holds s h.size r' a r q'))))
 
   -- IN BOTH READINGS it holds of each value of the table
@@ -444,8 +445,8 @@ module _ {S A : Type 0} (identifier : S → ℕ) (content : S → ℕ → Reader
   slot_sees : {B : Type 0} (s : S) (f : Option A → Reader B) → ((o : Option A) → Sees (f o)) → Sees (slot identifier content s >>= f)
   slot_sees s f sf =
       look_sees (λ l. slot_at identifier content s l >>= f) (λ l.
-      slot_cases identifier content s (λ r. Sees (r >>= f)) (refused_sees buffer_ended) (sf none) l (λ e.
-      bind_sees (slot_if identifier content s true) f (bind_sees (element identifier content s) _ (element_sees s) (λ a. got-local (some a))) (λ o. (sf o).local)))
+      slot_cases identifier content s (λ r. Sees (r >>= f)) (refused_sees buffer_ended) (sf None) l (λ e.
+      bind_sees (slot_if identifier content s true) f (bind_sees (element identifier content s) _ (element_sees s) (λ a. got-local (Some a))) (λ o. (sf o).local)))
 
   pub slot_tail : (s : S) → Tail (slot identifier content s)
   slot_tail s =

@@ -1,9 +1,9 @@
 -- Class of MS (EN 300 392-2, clause 16.10.5): 24 bits, top bit first, the 22 fields in order.
-use Rattle.std.specs.Prelude.{ℕ, ◌+◌, ◌/◌, ◌%◌, ◌^◌, Bool, true, ◌&&◌, List, [], ◌∷◌, ◌++◌, get_or}
-use Rattle.std.proofs.Math.Option.{Option}
+use Rattle.std.specs.Prelude.{ℕ, ◌+◌, ◌/◌, ◌%◌, ◌^◌, Bool, true, ◌&&◌, List, [], ◌∷◌, ◌++◌, get_or, is_some}
+use Rattle.std.specs.Prelude.{Option}
 use Rattle.bits.specs.Bits.{Bits, digits}
 use Rattle.bits.specs.Reader.{Reader, got, then, ◌>>=◌, field}
-use Rattle.elements.specs.Numbers.{is_present, value_or, in_width}
+use Rattle.elements.specs.Numbers.{value_or, in_width}
 use Rattle.elements.specs.declared.class_of_ms.ClassOfMs.{ClassOfMs}
 use Rattle.elements.specs.declared.class_of_ms.OptionalClassOfMs.{OptionalClassOfMs}
 
@@ -69,7 +69,7 @@ abbrev pub no_class : ClassOfMs
 no_class = class_of []
 
 abbrev pub class_option : Option ClassOfMs → OptionalClassOfMs
-class_option o = record { present = is_present o; value = value_or no_class o }
+class_option o = record { present = is_some o; value = value_or no_class o }
 
 unfoldable pub class_of_ms_element : Reader ClassOfMs
 class_of_ms_element = numbers class_widths >>= λ vs. got (class_of vs)

@@ -1,10 +1,10 @@
 -- Energy saving information (EN 300 392-2, clause 16.10.10): mode, frame number, multiframe number. StayAlive has neither number: its bits are
 -- passed, and written 0.
-use Rattle.std.specs.Prelude.{ℕ, ◌≡◌, Bool, not, ◌&&◌, ◌||◌, ◌++◌, eqb}
-use Rattle.std.proofs.Math.Option.{Option, none}
+use Rattle.std.specs.Prelude.{ℕ, ◌≡◌, Bool, not, ◌&&◌, ◌||◌, ◌++◌, eqb, is_some}
+use Rattle.std.specs.Prelude.{Option, None}
 use Rattle.bits.specs.Bits.{Bits, digits}
 use Rattle.bits.specs.Reader.{Reader, got, ◌>>=◌, field}
-use Rattle.elements.specs.Numbers.{is_present, value_or, held, option_all, in_width, u8_of, in_u8, SameU8}
+use Rattle.elements.specs.Numbers.{value_or, held, option_all, in_width, u8_of, in_u8, SameU8}
 use Rattle.elements.specs.declared.energy_saving_information.EnergySavingInformation.{EnergySavingInformation}
 use Rattle.elements.specs.declared.energy_saving_information.OptionalEnergySavingInformation.{OptionalEnergySavingInformation}
 
@@ -24,10 +24,10 @@ abbrev pub saving_of : ℕ → Option ℕ → Option ℕ → EnergySavingInforma
 saving_of m f n = record { energy_saving_mode = m; frame_number = u8_of f; multiframe_number = u8_of n }
 
 abbrev pub no_saving : EnergySavingInformation
-no_saving = saving_of 0 none none
+no_saving = saving_of 0 None None
 
 abbrev pub saving_option : Option EnergySavingInformation → OptionalEnergySavingInformation
-saving_option o = record { present = is_present o; value = value_or no_saving o }
+saving_option o = record { present = is_some o; value = value_or no_saving o }
 
 unfoldable pub energy_saving : Reader EnergySavingInformation
 energy_saving =
@@ -53,11 +53,11 @@ saving_fits e =
 
 -- QUESTION 12: StayAlive has neither
 unfoldable pub alive_has_none : EnergySavingInformation → Bool
-alive_has_none e = not (eqb e.energy_saving_mode stay_alive) || (not (is_present (frame_in e)) && not (is_present (multiframe_in e)))
+alive_has_none e = not (eqb e.energy_saving_mode stay_alive) || (not (is_some (frame_in e)) && not (is_some (multiframe_in e)))
 
 -- QUESTION 13: the other modes have both
 unfoldable pub others_have_both : EnergySavingInformation → Bool
-others_have_both e = eqb e.energy_saving_mode stay_alive || (is_present (frame_in e) && is_present (multiframe_in e))
+others_have_both e = eqb e.energy_saving_mode stay_alive || (is_some (frame_in e) && is_some (multiframe_in e))
 
 unfoldable pub saving_normal : EnergySavingInformation → EnergySavingInformation
 saving_normal e = saving_of e.energy_saving_mode (frame_in e) (multiframe_in e)

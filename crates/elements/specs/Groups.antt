@@ -1,10 +1,11 @@
 -- Groups (EN 300 392-2, clauses 16.10.19, 16.10.22 and 16.10.27): how they are read and written, and what is asked of them.
-use Rattle.std.specs.Prelude.{ℕ, ◌+◌, ◌≡◌, Bool, true, false, cond, not, ◌&&◌, ◌||◌, List, [], ◌∷◌, ◌++◌, get_or, eqb}
+use Rattle.std.specs.Prelude.{ℕ, ◌+◌, ◌≡◌, Bool, true, false, cond, not, ◌&&◌, ◌||◌, List, [], ◌∷◌, ◌++◌, get_or, eqb, is_some}
 use Rattle.std.specs.Bool.{beq}
-use Rattle.std.proofs.Math.Option.{Option, none, some}
+use Rattle.std.specs.Prelude.{Option, None, Some}
 use Rattle.bits.specs.Bits.{Bits, digits}
 use Rattle.bits.specs.Reader.{Reader, got, ◌>>=◌, field, optional}
-use Rattle.elements.specs.Numbers.{is_present, value_or, held, optional_number, option_bits, option_all, in_width, flag_width, Same}
+use Rattle.elements.specs.Numbers.{value_or, held, optional_number, option_bits, option_all, in_width, flag_width, Same}
+use Rattle.elements.specs.declared.group_address.GroupAddress.{GroupAddress}
 use Rattle.elements.specs.declared.group_identity_attachment.GroupIdentityAttachment.{GroupIdentityAttachment}
 use Rattle.elements.specs.declared.group_identity_uplink.GroupIdentityUplink.{GroupIdentityUplink}
 use Rattle.elements.specs.declared.group_identity_downlink.GroupIdentityDownlink.{GroupIdentityDownlink}
@@ -20,11 +21,11 @@ address_width = 24
 -- which parts an address has
 pub record Form : Type 0 where
   pub gssi : Bool
-  pub extension : Bool
+  pub address_extension : Bool
   pub vgssi : Bool
 
 abbrev form : Bool → Bool → Bool → Form
-form g e v = record { gssi = g; extension = e; vgssi = v }
+form g e v = record { gssi = g; address_extension = e; vgssi = v }
 
 -- THE ADDRESS TYPES, 0 first; an uplink of type 3 has no address, and is not written
 abbrev pub uplink_forms : List Form
@@ -40,7 +41,7 @@ abbrev pub form_at : List Form → ℕ → Form
 form_at forms t = get_or forms t no_address
 
 abbrev pub same_form : Form → Form → Bool
-same_form f h = beq f.gssi h.gssi && (beq f.extension h.extension && beq f.vgssi h.vgssi)
+same_form f h = beq f.gssi h.gssi && (beq f.address_extension h.address_extension && beq f.vgssi h.vgssi)
 
 -- the type of a form, and whether it is listed
 unfoldable pub type_of : List Form → Form → ℕ
@@ -51,38 +52,33 @@ unfoldable pub listed_form : List Form → Form → Bool
 listed_form [] h = false
 listed_form (f ∷ fs) h = same_form f h || listed_form fs h
 
-pub record Address : Type 0 where
-  pub gssi : Option ℕ
-  pub extension : Option ℕ
-  pub vgssi : Option ℕ
-
-unfoldable pub address_of : Form → Reader Address
+unfoldable pub address_of : Form → Reader GroupAddress
 address_of f =
-    optional_number f.gssi address_width >>= λ g. optional_number f.extension address_width >>= λ e. optional_number f.vgssi address_width >>= λ v.
-    got (record { gssi = g; extension = e; vgssi = v })
+    optional_number f.gssi address_width >>= λ g. optional_number f.address_extension address_width >>= λ e. optional_number f.vgssi address_width >>= λ v.
+    got (record { gssi = g; address_extension = e; vgssi = v })
 
-abbrev pub no_address_in : Address
-no_address_in = record { gssi = none; extension = none; vgssi = none }
+abbrev pub no_address_in : GroupAddress
+no_address_in = record { gssi = None; address_extension = None; vgssi = None }
 
-abbrev pub form_of : Address → Form
-form_of a = form (is_present a.gssi) (is_present a.extension) (is_present a.vgssi)
+abbrev pub form_of : GroupAddress → Form
+form_of a = form (is_some a.gssi) (is_some a.address_extension) (is_some a.vgssi)
 
-unfoldable pub address_bits : List Form → Address → Bits
+unfoldable pub address_bits : List Form → GroupAddress → Bits
 address_bits forms a =
     digits address_type_width (type_of forms (form_of a))
-    ++ (option_bits (digits address_width) a.gssi ++ (option_bits (digits address_width) a.extension ++ option_bits (digits address_width) a.vgssi))
+    ++ (option_bits (digits address_width) a.gssi ++ (option_bits (digits address_width) a.address_extension ++ option_bits (digits address_width) a.vgssi))
 
-unfoldable pub address_fits : Address → Bool
-address_fits a = option_all (in_width address_width) a.gssi && (option_all (in_width address_width) a.extension && option_all (in_width address_width) a.vgssi)
+unfoldable pub address_fits : GroupAddress → Bool
+address_fits a = option_all (in_width address_width) a.gssi && (option_all (in_width address_width) a.address_extension && option_all (in_width address_width) a.vgssi)
 
 -- an address: its type, then the parts that this type has
-abbrev pub typed_address : List Form → Reader Address
+abbrev pub typed_address : List Form → Reader GroupAddress
 typed_address forms = field address_type_width >>= λ t. address_of (form_at forms t)
 
-unfoldable pub uplink_address : Reader Address
+unfoldable pub uplink_address : Reader GroupAddress
 uplink_address = typed_address uplink_forms
 
-unfoldable pub downlink_address : Reader Address
+unfoldable pub downlink_address : Reader GroupAddress
 downlink_address = typed_address downlink_forms
 
 -- ## attachment and detachment
@@ -111,33 +107,33 @@ differ a b = not (beq a b)
 
 -- ## a group of either direction, by what an attachment says and by its address
 
-abbrev pub group_with : {T G : Type 0} → Reader T → Reader Address → (Option T → Option ℕ → Address → G) → Reader G
+abbrev pub group_with : {T G : Type 0} → Reader T → Reader GroupAddress → (Option T → Option ℕ → GroupAddress → G) → Reader G
 group_with info address of =
-    field flag_width >>= λ k. optional some none (eqb k attachment) info >>= λ t. optional_number (eqb k detachment) detachment_width >>= λ d.
+    field flag_width >>= λ k. optional Some None (eqb k attachment) info >>= λ t. optional_number (eqb k detachment) detachment_width >>= λ d.
     address >>= λ a. got (of t d a)
 
-abbrev pub group_bits : {T : Type 0} → (T → Bits) → List Form → Option T → Option ℕ → Address → Bits
+abbrev pub group_bits : {T : Type 0} → (T → Bits) → List Form → Option T → Option ℕ → GroupAddress → Bits
 group_bits bits forms t d a =
-    digits flag_width (kind_of (is_present t)) ++ (option_bits bits t ++ (option_bits (digits detachment_width) d ++ address_bits forms a))
+    digits flag_width (kind_of (is_some t)) ++ (option_bits bits t ++ (option_bits (digits detachment_width) d ++ address_bits forms a))
 
 -- QUESTION 8
-abbrev pub group_fits : {T : Type 0} → (T → Bool) → Option T → Option ℕ → Address → Bool
+abbrev pub group_fits : {T : Type 0} → (T → Bool) → Option T → Option ℕ → GroupAddress → Bool
 group_fits fits t d a = option_all fits t && (option_all (in_width detachment_width) d && address_fits a)
 
 -- ## the uplink group
 
-abbrev pub uplink_of : Option ℕ → Option ℕ → Address → GroupIdentityUplink
+abbrev pub uplink_of : Option ℕ → Option ℕ → GroupAddress → GroupIdentityUplink
 uplink_of c d a = record {
   gssi = value_or 0 a.gssi;
-  address_extension = value_or 0 a.extension;
+  address_extension = value_or 0 a.address_extension;
   vgssi = value_or 0 a.vgssi;
   class_of_usage = value_or 0 c;
-  class_of_usage_present = is_present c;
-  group_identity_detachment_uplink_present = is_present d;
+  class_of_usage_present = is_some c;
+  group_identity_detachment_uplink_present = is_some d;
   group_identity_detachment_uplink = value_or 0 d;
-  gssi_present = is_present a.gssi;
-  address_extension_present = is_present a.extension;
-  vgssi_present = is_present a.vgssi;
+  gssi_present = is_some a.gssi;
+  address_extension_present = is_some a.address_extension;
+  vgssi_present = is_some a.vgssi;
 }
 
 unfoldable pub uplink : Reader GroupIdentityUplink
@@ -150,10 +146,10 @@ uplink_class g = held g.class_of_usage_present g.class_of_usage
 abbrev pub uplink_detachment : GroupIdentityUplink → Option ℕ
 uplink_detachment g = held g.group_identity_detachment_uplink_present g.group_identity_detachment_uplink
 
-abbrev pub uplink_address_in : GroupIdentityUplink → Address
+abbrev pub uplink_address_in : GroupIdentityUplink → GroupAddress
 uplink_address_in g = record {
   gssi = held g.gssi_present g.gssi;
-  extension = held g.address_extension_present g.address_extension;
+  address_extension = held g.address_extension_present g.address_extension;
   vgssi = held g.vgssi_present g.vgssi;
 }
 
@@ -165,7 +161,7 @@ unfoldable pub uplink_fits : GroupIdentityUplink → Bool
 uplink_fits g = group_fits (in_width class_of_usage_width) (uplink_class g) (uplink_detachment g) (uplink_address_in g)
 
 unfoldable pub uplink_one : GroupIdentityUplink → Bool
-uplink_one g = differ (is_present (uplink_class g)) (is_present (uplink_detachment g))
+uplink_one g = differ (is_some (uplink_class g)) (is_some (uplink_detachment g))
 
 unfoldable pub uplink_listed : GroupIdentityUplink → Bool
 uplink_listed g = listed_form uplink_forms (form_of (uplink_address_in g))
@@ -180,7 +176,7 @@ pub record SameUplink (g h : GroupIdentityUplink) : Type 0 where
       Same ◌≡◌ g.group_identity_detachment_uplink_present g.group_identity_detachment_uplink
       h.group_identity_detachment_uplink_present h.group_identity_detachment_uplink
   pub gssi : Same ◌≡◌ g.gssi_present g.gssi h.gssi_present h.gssi
-  pub extension : Same ◌≡◌ g.address_extension_present g.address_extension h.address_extension_present h.address_extension
+  pub address_extension : Same ◌≡◌ g.address_extension_present g.address_extension h.address_extension_present h.address_extension
   pub vgssi : Same ◌≡◌ g.vgssi_present g.vgssi h.vgssi_present h.vgssi
 
 -- ## the downlink group
@@ -191,18 +187,18 @@ attachment_info = field lifetime_width >>= λ l. field class_of_usage_width >>= 
 abbrev pub no_attachment : GroupIdentityAttachment
 no_attachment = record { group_identity_attachment_lifetime = 0; class_of_usage = 0 }
 
-abbrev pub downlink_of : Option GroupIdentityAttachment → Option ℕ → Address → GroupIdentityDownlink
+abbrev pub downlink_of : Option GroupIdentityAttachment → Option ℕ → GroupAddress → GroupIdentityDownlink
 downlink_of t d a = record {
   gssi = value_or 0 a.gssi;
-  address_extension = value_or 0 a.extension;
+  address_extension = value_or 0 a.address_extension;
   vgssi = value_or 0 a.vgssi;
-  group_identity_attachment_present = is_present t;
+  group_identity_attachment_present = is_some t;
   group_identity_attachment = value_or no_attachment t;
-  group_identity_detachment_uplink_present = is_present d;
+  group_identity_detachment_uplink_present = is_some d;
   group_identity_detachment_uplink = value_or 0 d;
-  gssi_present = is_present a.gssi;
-  address_extension_present = is_present a.extension;
-  vgssi_present = is_present a.vgssi;
+  gssi_present = is_some a.gssi;
+  address_extension_present = is_some a.address_extension;
+  vgssi_present = is_some a.vgssi;
 }
 
 unfoldable pub downlink : Reader GroupIdentityDownlink
@@ -214,10 +210,10 @@ downlink_attachment g = held g.group_identity_attachment_present g.group_identit
 abbrev pub downlink_detachment : GroupIdentityDownlink → Option ℕ
 downlink_detachment g = held g.group_identity_detachment_uplink_present g.group_identity_detachment_uplink
 
-abbrev pub downlink_address_in : GroupIdentityDownlink → Address
+abbrev pub downlink_address_in : GroupIdentityDownlink → GroupAddress
 downlink_address_in g = record {
   gssi = held g.gssi_present g.gssi;
-  extension = held g.address_extension_present g.address_extension;
+  address_extension = held g.address_extension_present g.address_extension;
   vgssi = held g.vgssi_present g.vgssi;
 }
 
@@ -235,7 +231,7 @@ unfoldable pub downlink_fits : GroupIdentityDownlink → Bool
 downlink_fits g = group_fits attachment_fits (downlink_attachment g) (downlink_detachment g) (downlink_address_in g)
 
 unfoldable pub downlink_one : GroupIdentityDownlink → Bool
-downlink_one g = differ (is_present (downlink_attachment g)) (is_present (downlink_detachment g))
+downlink_one g = differ (is_some (downlink_attachment g)) (is_some (downlink_detachment g))
 
 unfoldable pub downlink_listed : GroupIdentityDownlink → Bool
 downlink_listed g = listed_form downlink_forms (form_of (downlink_address_in g))
@@ -252,5 +248,5 @@ pub record SameDownlink (g h : GroupIdentityDownlink) : Type 0 where
       Same ◌≡◌ g.group_identity_detachment_uplink_present g.group_identity_detachment_uplink
       h.group_identity_detachment_uplink_present h.group_identity_detachment_uplink
   pub gssi : Same ◌≡◌ g.gssi_present g.gssi h.gssi_present h.gssi
-  pub extension : Same ◌≡◌ g.address_extension_present g.address_extension h.address_extension_present h.address_extension
+  pub address_extension : Same ◌≡◌ g.address_extension_present g.address_extension h.address_extension_present h.address_extension
   pub vgssi : Same ◌≡◌ g.vgssi_present g.vgssi h.vgssi_present h.vgssi

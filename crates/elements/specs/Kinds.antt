@@ -1,9 +1,9 @@
 -- The kinds of outer elements, and what a slot of each kind holds.
-use Rattle.std.specs.Prelude.{ℕ, ◌≡◌, true, false}
-use Rattle.std.proofs.Math.Option.{Option, none}
+use Rattle.std.specs.Prelude.{ℕ, ◌≡◌, true, false, is_some, option_map}
+use Rattle.std.specs.Prelude.{Option, None}
 use Rattle.bits.specs.Bits.{Bits}
 use Rattle.bits.specs.Reader.{Reader, got, ◌>>=◌}
-use Rattle.elements.specs.Numbers.{held, is_present, value_or, option_map, Same}
+use Rattle.elements.specs.Numbers.{held, value_or, Same}
 use Rattle.elements.specs.Generics.{type3, type4, no_type3, no_type4, type3_bits, type4_bits}
 use Rattle.elements.specs.Lists.{list, list_of, list_bits, list_normal, downlinks}
 use Rattle.elements.specs.Locations.{location_demand, location_demand_bits, location_demand_normal, no_location_demand, location_accept, location_accept_bits, location_accept_normal, no_location_accept}
@@ -53,7 +53,7 @@ abbrev pub absent_location_accept : OptionalLocationAccept
 absent_location_accept = record { present = false; value = no_location_accept }
 
 abbrev pub absent_downlinks : OptionalDownlinks
-absent_downlinks = list_of downlinks none
+absent_downlinks = list_of downlinks None
 
 abbrev element_of : OptionalType3 → OptionalType4 → OptionalLocationDemand → OptionalLocationAccept → OptionalDownlinks → Element
 element_of g h d a l = record { type3 = g; type4 = h; location_demand = d; location_accept = a; downlinks = l }
@@ -125,7 +125,7 @@ abbrev pub type3_slot : OptionalType3 → Option Element
 type3_slot o = option_map is_type3 (type3_held o)
 
 abbrev pub type3_option : Option Type3FieldGeneric → OptionalType3
-type3_option o = record { present = is_present o; value = value_or no_type3 o }
+type3_option o = record { present = is_some o; value = value_or no_type3 o }
 
 abbrev pub SameType3 : OptionalType3 → OptionalType3 → Type 0
 SameType3 o u = Same ◌≡◌ o.present o.value u.present u.value
@@ -137,13 +137,13 @@ abbrev pub type4_slot : OptionalType4 → Option Element
 type4_slot o = option_map is_type4 (type4_held o)
 
 abbrev pub type4_option : Option Type4FieldGeneric → OptionalType4
-type4_option o = record { present = is_present o; value = value_or no_type4 o }
+type4_option o = record { present = is_some o; value = value_or no_type4 o }
 
 abbrev pub SameType4 : OptionalType4 → OptionalType4 → Type 0
 SameType4 o u = Same ◌≡◌ o.present o.value u.present u.value
 
 abbrev pub location_demand_option : Option GroupIdentityLocationDemand → OptionalLocationDemand
-location_demand_option o = record { present = is_present o; value = value_or no_location_demand o }
+location_demand_option o = record { present = is_some o; value = value_or no_location_demand o }
 
 abbrev pub location_accept_option : Option GroupIdentityLocationAccept → OptionalLocationAccept
-location_accept_option o = record { present = is_present o; value = value_or no_location_accept o }
+location_accept_option o = record { present = is_some o; value = value_or no_location_accept o }

@@ -1,9 +1,9 @@
 -- Lists of groups: a type 4 element whose entries are read and written one by one. A list of no entries differs from an absent one.
-use Rattle.std.specs.Prelude.{ℕ, ◌-◌, ◌≡◌, Bool, true, false, ◌&&◌, List, [], ◌∷◌, ◌++◌, map, length, take, replicate, leb}
-use Rattle.std.proofs.Math.Option.{Option, none, some}
+use Rattle.std.specs.Prelude.{ℕ, ◌-◌, ◌≡◌, Bool, true, false, ◌&&◌, List, [], ◌∷◌, ◌++◌, map, length, take, replicate, leb, option_map}
+use Rattle.std.specs.Prelude.{Option, None, Some}
 use Rattle.bits.specs.Bits.{Bits, digits}
 use Rattle.bits.specs.Reader.{Reader, got, ◌>>=◌, times, exactly}
-use Rattle.elements.specs.Numbers.{held, option_all, option_map, in_width}
+use Rattle.elements.specs.Numbers.{held, option_all, in_width}
 use Rattle.elements.specs.Table.{length_width}
 use Rattle.elements.specs.Generics.{entries_width, entries}
 use Rattle.elements.specs.Groups.{uplink, uplink_of, uplink_bits, uplink_fits, uplink_one, uplink_listed, uplink_normal, SameUplink, downlink, downlink_of, downlink_bits, downlink_fits, downlink_one, downlink_listed, downlink_normal, SameDownlink, no_address_in}
@@ -62,8 +62,8 @@ module _ {G L : Type 0} (k : Groups G L) where
   list_as p gs = k.make p (length gs) (padded gs)
 
   abbrev pub list_of : Option (List G) → L
-  list_of none = list_as false []
-  list_of (some gs) = list_as true gs
+  list_of None = list_as false []
+  list_of (Some gs) = list_as true gs
 
   -- m groups, as a list
   abbrev pub groups_as : Bool → ℕ → Reader L
@@ -115,7 +115,7 @@ uplinks = record {
   listed = uplink_listed;
   normal = uplink_normal;
   Same = SameUplink;
-  zero = uplink_of none none no_address_in;
+  zero = uplink_of None None no_address_in;
   make = λ p n gs. record { present = p; count = n; groups = gs };
   present = λ l. l.present;
   count = λ l. l.count;
@@ -131,7 +131,7 @@ downlinks = record {
   listed = downlink_listed;
   normal = downlink_normal;
   Same = SameDownlink;
-  zero = downlink_of none none no_address_in;
+  zero = downlink_of None None no_address_in;
   make = λ p n gs. record { present = p; count = n; groups = gs };
   present = λ l. l.present;
   count = λ l. l.count;

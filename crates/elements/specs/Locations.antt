@@ -1,7 +1,7 @@
 -- Group identity location demand and accept (EN 300 392-2, clauses 16.10.24 and 16.10.23): two bits, O-bit, a list, M-bit. The demand's
 -- reserved bit has to be 0; the accept's is passed, and written 0.
 use Rattle.std.specs.Prelude.{ℕ, ◌≡◌, Bool, true, false, ◌&&◌, [], ◌∷◌, ◌++◌, get_or, eqb}
-use Rattle.std.proofs.Math.Option.{none}
+use Rattle.std.specs.Prelude.{None}
 use Rattle.bits.specs.PduParseError.{invalid_value}
 use Rattle.bits.specs.Bits.{Bits, digits}
 use Rattle.bits.specs.Reader.{Reader, got, then, ◌>>=◌, field, pass, unless, exactly}
@@ -15,8 +15,8 @@ use Rattle.elements.specs.declared.group_identity_location_accept.GroupIdentityL
 -- a structure that holds one list: a table of one slot, read strictly
 module _ {G L : Type 0} (k : Groups G L) (identifier : ℕ) where
   abbrev pub nested_if : Bool → Reader L
-  nested_if true bs = then (scan_table (λ i. i) (λ i. list k) false (identifier ∷ []) bs) (λ x. got (value_or (list_of k none) (get_or x.value 0 none)))
-  nested_if false bs = got (list_of k none) bs
+  nested_if true bs = then (scan_table (λ i. i) (λ i. list k) false (identifier ∷ []) bs) (λ x. got (value_or (list_of k None) (get_or x.value 0 None)))
+  nested_if false bs = got (list_of k None) bs
 
   -- O-bit, and the list behind it
   unfoldable pub nested : Reader L
@@ -58,7 +58,7 @@ unfoldable pub location_demand : ℕ → Reader GroupIdentityLocationDemand
 location_demand n = exactly n demand_body
 
 abbrev pub no_location_demand : GroupIdentityLocationDemand
-no_location_demand = record { group_identity_attach_detach_mode = 0; group_identity_uplink = list_of uplinks none }
+no_location_demand = record { group_identity_attach_detach_mode = 0; group_identity_uplink = list_of uplinks None }
 
 unfoldable pub location_demand_bits : GroupIdentityLocationDemand → Bits
 location_demand_bits d =
@@ -97,7 +97,7 @@ unfoldable pub location_accept : ℕ → Reader GroupIdentityLocationAccept
 location_accept n = exactly n accept_body
 
 abbrev pub no_location_accept : GroupIdentityLocationAccept
-no_location_accept = record { group_identity_accept_reject = 0; group_identity_downlink = list_of downlinks none }
+no_location_accept = record { group_identity_accept_reject = 0; group_identity_downlink = list_of downlinks None }
 
 unfoldable pub location_accept_bits : GroupIdentityLocationAccept → Bits
 location_accept_bits d =

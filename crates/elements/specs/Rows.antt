@@ -1,6 +1,6 @@
 -- A message's table as the code holds it, and its generic slots as the code reads them.
 use Rattle.std.specs.Prelude.{ℕ, zero, suc, ◌+◌, ◌-◌, min, Bool, true, false, cond, not, ◌&&◌, List, [], ◌∷◌, map, take, drop, replicate, eqb}
-use Rattle.std.proofs.Math.Option.{Option}
+use Rattle.std.specs.Prelude.{Option}
 use Rattle.std.proofs.lemmas.List.Edits.{sets}
 use Rattle.bits.specs.Reader.{Reader, got, ◌>>=◌, field}
 use Rattle.elements.specs.Table.{length_width, Look, outside, ends, opens, Counted, counted, closing, is_listed, skip, slot}
@@ -10,27 +10,28 @@ use Rattle.elements.specs.declared.typed_pdu_fields.OptionalType3.{OptionalType3
 use Rattle.elements.specs.declared.typed_pdu_fields.OptionalType4.{OptionalType4}
 use Rattle.elements.specs.declared.typed_pdu_fields.Generic.{Generic}
 use Rattle.elements.specs.declared.typed_pdu_fields.Row.{Row}
-use Rattle.elements.specs.declared.typed_pdu_fields.Table.{Table}
+use Rattle.elements.specs.declared.typed_pdu_fields.Kind as R
+use Rattle.elements.specs.declared.typed_pdu_fields.Kind.TheVariants as K
 use Rattle.elements.specs.declared.typed_pdu_fields.Slots.{Slots}
 
--- the kind that a row names by its number
-abbrev pub kind_of : ℕ → Kind
-kind_of zero = generic_type3
-kind_of (suc zero) = generic_type4
-kind_of (suc (suc zero)) = of_location_demand
-kind_of (suc (suc (suc zero))) = of_location_accept
-kind_of (suc (suc (suc (suc k)))) = of_downlinks
+-- the kind that a row names
+abbrev pub kind_of : R.Kind → Kind
+kind_of K.Type3 = generic_type3
+kind_of K.Type4 = generic_type4
+kind_of K.LocationDemand = of_location_demand
+kind_of K.LocationAccept = of_location_accept
+kind_of K.Downlinks = of_downlinks
 
 abbrev pub row_of : Row → Slot
 row_of r = row r.identifier (kind_of r.kind)
 
 -- the table's rows
-abbrev pub rows_of : Table → List Slot
-rows_of t = map row_of (take t.count t.rows)
+abbrev pub rows_of : List Row → List Slot
+rows_of = map row_of
 
 -- the rows from one place up to another
-abbrev pub slots_from : Table → ℕ → ℕ → List Row
-slots_from t from to = take (min to 8 - from) (drop from t.rows)
+abbrev pub slots_from : List Row → ℕ → ℕ → List Row
+slots_from t from to = take (min to 8 - from) (drop from t)
 
 -- the unlisted elements that stand here, if they are skipped
 abbrev pub skipping : List Slot → Bool → Reader ℕ
@@ -70,14 +71,18 @@ generic_type3_at n = type3 n >>= λ g. got (from_type3 (record { present = true;
 abbrev pub generic_type4_at : ℕ → Reader Generic
 generic_type4_at n = type4 n >>= λ g. got (from_type4 (record { present = true; value = g }))
 
-abbrev pub is_type4_row : Row → Bool
-is_type4_row r = eqb r.kind 1
+abbrev pub is_type4 : R.Kind → Bool
+is_type4 K.Type3 = false
+is_type4 K.Type4 = true
+is_type4 K.LocationDemand = false
+is_type4 K.LocationAccept = false
+is_type4 K.Downlinks = false
 
 abbrev pub generic_row : Row → Slot
-generic_row r = row r.identifier (cond (is_type4_row r) generic_type4 generic_type3)
+generic_row r = row r.identifier (cond (is_type4 r.kind) generic_type4 generic_type3)
 
 abbrev pub generic_in : Row → Option Element → Generic
-generic_in r o = cond (is_type4_row r) (from_type4 (held_element o).type4) (from_type3 (held_element o).type3)
+generic_in r o = cond (is_type4 r.kind) (from_type4 (held_element o).type4) (from_type3 (held_element o).type3)
 
 unfoldable pub generic_slot : Row → Reader Generic
 generic_slot r = slot identifier_of content (generic_row r) >>= λ o. got (generic_in r o)

@@ -2,7 +2,7 @@
 -- read, strictly and skipping; the walk over whole elements, and the cut (document 01, 'Elements', 'Walk and
 -- cut').
 use Rattle.std.specs.Prelude.{ℕ, zero, suc, ◌+◌, ◌-◌, Bool, true, false, cond, ◌||◌, List, [], ◌∷◌, ◌++◌, length, take, eqb}
-use Rattle.std.proofs.Math.Option.{Option, none, some}
+use Rattle.std.specs.Prelude.{Option, None, Some}
 use Rattle.bits.specs.PduParseError.{buffer_ended, invalid_trailing_mbit_value}
 use Rattle.bits.specs.Bits.{Bits}
 use Rattle.bits.specs.Reader.{Answer, got, refused, Reader, then, ◌>>=◌, field, pass, unless}
@@ -69,12 +69,12 @@ unfoldable pub piece : Reader Piece
 piece bs = then (whole bs) (λ i rest. got (record { identifier = i; bits = used_of bs rest }) rest)
 
 abbrev pub next_if : Bool → Reader (Option Piece)
-next_if true bs = got none bs
-next_if false bs = then (piece bs) (λ p. got (some p))
+next_if true bs = got None bs
+next_if false bs = then (piece bs) (λ p. got (Some p))
 
 abbrev pub next_at_lem : (ℕ → Bool) → Look → Reader (Option Piece)
 next_at_lem stop outside bs = refused buffer_ended
-next_at_lem stop ends bs = got none bs
+next_at_lem stop ends bs = got None bs
 next_at_lem stop (opens i) bs = next_if (stop i) bs
 
 -- the next element; none before an M-bit of 0 or an identifier at which `stop` holds
@@ -83,8 +83,8 @@ next stop bs = next_at_lem stop (look bs) bs
 
 module _ {A : Type 0} where
   abbrev pub onward : Answer (Option A) → Reader (List A) → Answer (List A)
-  onward (got none rest) more = got [] rest
-  onward (got (some a) rest) more = then (more rest) (λ xs. got (a ∷ xs))
+  onward (got None rest) more = got [] rest
+  onward (got (Some a) rest) more = then (more rest) (λ xs. got (a ∷ xs))
   onward (refused n) more = refused n
 
   -- r again and again until it gives none, at most n times
@@ -146,12 +146,12 @@ module _ {S A : Type 0} (identifier : S → ℕ) (content : S → ℕ → Reader
   element s = header >>= λ h. content s h.size
 
   abbrev pub slot_if : S → Bool → Reader (Option A)
-  slot_if s true bs = then (element s bs) (λ a. got (some a))
-  slot_if s false bs = got none bs
+  slot_if s true bs = then (element s bs) (λ a. got (Some a))
+  slot_if s false bs = got None bs
 
   abbrev pub slot_at : S → Look → Reader (Option A)
   slot_at s outside bs = refused buffer_ended
-  slot_at s ends bs = got none bs
+  slot_at s ends bs = got None bs
   slot_at s (opens i) bs = slot_if s (eqb i (identifier s)) bs
 
   -- ONE SLOT: M-bit 0, or another identifier, means absent

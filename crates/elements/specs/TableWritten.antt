@@ -1,6 +1,6 @@
 -- Elements written: the bits of one element, of a slot that may be absent, and of a table up to its closing M-bit.
 use Rattle.std.specs.Prelude.{ℕ, List, [], ◌∷◌, ◌++◌, length}
-use Rattle.std.proofs.Math.Option.{Option, none, some}
+use Rattle.std.specs.Prelude.{Option, None, Some}
 use Rattle.bits.specs.Bits.{Bits, digits}
 use Rattle.elements.specs.Table.{mbit_width, identifier_width, length_width}
 
@@ -10,8 +10,8 @@ element_bits i xs = digits mbit_width 1 ++ (digits identifier_width i ++ (digits
 
 module _ {S A : Type 0} (identifier : S → ℕ) (content_bits : S → A → Bits) where
   abbrev pub slot_bits : S → Option A → Bits
-  slot_bits s none = []
-  slot_bits s (some a) = element_bits (identifier s) (content_bits s a)
+  slot_bits s None = []
+  slot_bits s (Some a) = element_bits (identifier s) (content_bits s a)
 
   -- the slots in order, absent where nothing is given, and the closing M-bit
   unfoldable pub table_bits : List S → List (Option A) → Bits

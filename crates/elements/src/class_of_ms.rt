@@ -1,12 +1,11 @@
 // Class of MS (EN 300 392-2, clause 16.10.5): 24 bits, top bit first.
 ghost use Rattle.std.specs.Prelude.{◌≡◌};
-ghost use Rattle.bits.specs.Placed.{at, refusal};
-ghost use Rattle.elements.specs.Numbers.{type2_as};
+ghost use Rattle.bits.specs.Placed.{at, as_read};
+ghost use Rattle.elements.specs.Numbers.{type2};
 ghost use Rattle.elements.specs.ClassOfMs.{class_of, class_widths, no_class, class_option, class_of_ms_element};
 ghost use Rattle.elements.specs.ClassOfMs.{split};
-ghost use Rattle.elements.specs.GroupAnswers.{as_class};
 
-use bits::bitbuffer::{Cursor, Field8, Field32};
+use bits::bitbuffer::{Cursor, Read};
 
 #[repr(C)]
 #[derive(Clone, Copy)]
@@ -40,23 +39,6 @@ pub struct ClassOfMs {
 pub struct OptionalClassOfMs {
     pub present: bool,
     pub value: ClassOfMs,
-}
-
-#[derive(Clone, Copy)]
-pub enum ClassRead {
-    Read(OptionalClassOfMs, Cursor),
-    Refused(u8),
-}
-
-impl ClassRead {
-    pub fn refusal(self) -> u8
-        ensures { result ≡ refusal (as_class self) }
-    {
-        match self {
-            ClassRead::Read(_, _) => 0,
-            ClassRead::Refused(n) => n,
-        }
-    }
 }
 
 // The fields of a 24-bit word.
@@ -120,32 +102,25 @@ pub fn no_class_of_ms() -> ClassOfMs
     ABSENT
 }
 
-// A type 2 element: P-bit, then the class of MS if it is 1.
-pub fn parse_type2_class_of_ms(c: Cursor, octets: &[u8]) -> ClassRead
-    ensures { as_class result ≡ at (type2_as class_option class_of_ms_element) octets.now c }
-{
-    let f = c.read_u8(octets, 1);
-    let Field8::Value(p, c1) = f else {
-        return ClassRead::Refused(f.refusal());
-    };
-    if p == 1 {
-        let w = c1.read_u32(octets, 24);
-        let Field32::Value(word, c2) = w else {
-            return ClassRead::Refused(w.refusal());
-        };
-        return ClassRead::Read(
-            OptionalClassOfMs {
-                present: true,
-                value: fields(word),
-            },
-            c2,
-        );
-    }
-    ClassRead::Read(
+impl From<Option<ClassOfMs>> for OptionalClassOfMs {
+    ghost from_gives = { λ o r. r ≡ class_option o };
+
+    fn from(o: Option<ClassOfMs>) -> OptionalClassOfMs {
         OptionalClassOfMs {
-            present: false,
-            value: ABSENT,
-        },
-        c1,
-    )
+            present: o.is_some(),
+            value: o.unwrap_or(ABSENT),
+        }
+    }
+}
+
+// A type 2 element: P-bit, then the class of MS if it is 1.
+pub fn parse_type2_class_of_ms(c: Cursor, octets: &[u8]) -> Read<Option<ClassOfMs>>
+    ensures { as_read result ≡ at (type2 class_of_ms_element) octets.now c }
+{
+    let (p, c1) = c.read::<u8>(octets, 1)?;
+    if p == 1 {
+        let (word, c2) = c1.read::<u32>(octets, 24)?;
+        return Ok((Some(fields(word)), c2));
+    }
+    Ok((None, c1))
 }

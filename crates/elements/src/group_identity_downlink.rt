@@ -1,19 +1,17 @@
 // Group identity downlink (EN 300 392-2, clause 16.10.22).
-ghost use Rattle.std.specs.Prelude.{◌≡◌};
-ghost use Rattle.std.proofs.Math.Option.{none};
-ghost use Rattle.bits.specs.Placed.{at, refusal, halted};
-ghost use Rattle.bits.specs.Written.{next};
-ghost use Rattle.elements.specs.Groups.{downlink};
+ghost use Rattle.std.specs.Prelude.{◌≡◌, None};
+ghost use Rattle.bits.specs.Placed.{at, as_read, halted};
+ghost use Rattle.elements.specs.Groups.{downlink, downlink_of};
 ghost use Rattle.elements.specs.Lists.{downlinks, list_of};
-ghost use Rattle.elements.specs.GroupAnswers.{as_downlink, downlinks_answer, nested_slot_if};
+ghost use Rattle.elements.specs.GroupAnswers.{downlinks_answer, nested_slot_if};
 
-use crate::group_address::{AddressRead, read_downlink_address};
+use crate::group_address::{GroupAddress, read_downlink_address};
 use crate::group_identity_attachment::{
-    AttachmentRead, GroupIdentityAttachment, NO_ATTACHMENT, read_optional_attachment,
+    GroupIdentityAttachment, NO_ATTACHMENT, read_optional_attachment,
 };
-use crate::typed_pdu_fields::{ListFrontRead, OptionalU8Read, read_list_front, read_optional_u8};
-use bits::bitbuffer::{Cursor, Field8, Moved};
-use bits::pdu_parse_error::INCONSISTENT_LENGTH;
+use crate::typed_pdu_fields::{Judged, read_list_front, read_optional};
+use bits::bitbuffer::{Cursor, Read};
+use bits::pdu_parse_error::PduParseErr;
 
 // Flat and without padding, as the uplink group.
 #[repr(C)]
@@ -40,29 +38,6 @@ pub struct OptionalDownlinks {
     pub groups: [GroupIdentityDownlink; 63],
 }
 
-#[derive(Clone, Copy)]
-pub enum DownlinkRead {
-    Read(GroupIdentityDownlink, Cursor),
-    Refused(u8),
-}
-
-impl DownlinkRead {
-    pub fn refusal(self) -> u8
-        ensures { result ≡ refusal (as_downlink self) }
-    {
-        match self {
-            DownlinkRead::Read(_, _) => 0,
-            DownlinkRead::Refused(n) => n,
-        }
-    }
-}
-
-#[derive(Clone, Copy)]
-pub struct DownlinksRead {
-    pub verdict: Moved,
-    pub list: OptionalDownlinks,
-}
-
 const ZERO: GroupIdentityDownlink = GroupIdentityDownlink {
     gssi: 0,
     address_extension: 0,
@@ -77,7 +52,7 @@ const ZERO: GroupIdentityDownlink = GroupIdentityDownlink {
 };
 
 pub fn no_downlinks() -> OptionalDownlinks
-    ensures { result ≡ list_of downlinks none }
+    ensures { result ≡ list_of downlinks None }
 {
     let groups = [ZERO; 63];
     OptionalDownlinks {
@@ -88,12 +63,12 @@ pub fn no_downlinks() -> OptionalDownlinks
 }
 
 // A refusal, and an absent list beside it.
-fn refused(n: u8) -> DownlinksRead
-    ensures { result ≡ downlinks_answer (halted n) }
+fn refused(e: PduParseErr) -> Judged<OptionalDownlinks>
+    ensures { result ≡ downlinks_answer (halted e) }
 {
-    DownlinksRead {
-        verdict: Moved::Refused(n),
-        list: no_downlinks(),
+    Judged {
+        verdict: Err(e),
+        value: no_downlinks(),
     }
 }
 
@@ -111,49 +86,55 @@ impl OptionalDownlinks {
     }
 }
 
+// The group of its parts.
+fn group_of(
+    attachment: Option<GroupIdentityAttachment>,
+    detachment: Option<u8>,
+    address: GroupAddress,
+) -> GroupIdentityDownlink
+    ensures { result ≡ downlink_of attachment detachment address }
+{
+    GroupIdentityDownlink {
+        gssi: address.gssi.unwrap_or(0),
+        address_extension: address.address_extension.unwrap_or(0),
+        vgssi: address.vgssi.unwrap_or(0),
+        group_identity_attachment_present: attachment.is_some(),
+        group_identity_attachment: attachment.unwrap_or(NO_ATTACHMENT),
+        group_identity_detachment_uplink_present: detachment.is_some(),
+        group_identity_detachment_uplink: detachment.unwrap_or(0),
+        gssi_present: address.gssi.is_some(),
+        address_extension_present: address.address_extension.is_some(),
+        vgssi_present: address.vgssi.is_some(),
+    }
+}
+
 impl GroupIdentityDownlink {
-    pub fn from_bitbuf(c: Cursor, octets: &[u8]) -> DownlinkRead
-        ensures { as_downlink result ≡ at downlink octets.now c }
+    pub fn from_bitbuf(c: Cursor, octets: &[u8]) -> Read<GroupIdentityDownlink>
+        ensures { as_read result ≡ at downlink octets.now c }
     {
-        let k = c.read_u8(octets, 1);
-        let Field8::Value(attach_detach_type_identifier, c1) = k else {
-            return DownlinkRead::Refused(k.refusal());
+        let (kind, c1) = c.read::<u8>(octets, 1)?;
+        let t = read_optional_attachment(c1, octets, kind == 0);
+        let Ok((attachment, c2)) = t else {
+            return Err(t.unwrap_err());
         };
-        let t = read_optional_attachment(c1, octets, attach_detach_type_identifier == 0);
-        let AttachmentRead::Read(attachment, c2) = t else {
-            return DownlinkRead::Refused(t.refusal());
-        };
-        let information = attachment.value;
-        let d = read_optional_u8(c2, octets, attach_detach_type_identifier == 1, 2);
-        let OptionalU8Read::Read(detachment, c3) = d else {
-            return DownlinkRead::Refused(d.refusal());
-        };
+        let (detachment, c3) = read_optional(c2, octets, kind == 1, 2)?;
         let a = read_downlink_address(c3, octets);
-        let AddressRead::Read(address, c4) = a else {
-            return DownlinkRead::Refused(a.refusal());
+        let Ok((address, c4)) = a else {
+            return Err(a.unwrap_err());
         };
-        DownlinkRead::Read(
-            GroupIdentityDownlink {
-                gssi: address.gssi,
-                address_extension: address.address_extension,
-                vgssi: address.vgssi,
-                group_identity_attachment_present: attachment.present,
-                group_identity_attachment: information,
-                group_identity_detachment_uplink_present: detachment.present,
-                group_identity_detachment_uplink: detachment.value,
-                gssi_present: address.gssi_present,
-                address_extension_present: address.address_extension_present,
-                vgssi_present: address.vgssi_present,
-            },
-            c4,
-        )
+        Ok((group_of(attachment, detachment, address), c4))
     }
 }
 
 // The slot of a list of groups, where there is such a slot: the list has to end where its length said. A list without groups is
 // given at once: an array that nothing is put into needn't be copied. The cursor is handed on number by number, as the caller just
 // stored it: copied as a whole, it would wait for both.
-pub fn read_downlinks_slot(c: Cursor, octets: &[u8], there: bool, identifier: u8) -> DownlinksRead
+pub fn read_downlinks_slot(
+    c: Cursor,
+    octets: &[u8],
+    there: bool,
+    identifier: u8,
+) -> Judged<OptionalDownlinks>
     ensures { result ≡ downlinks_answer (at (nested_slot_if downlinks identifier there) octets.now c) }
 {
     let from = Cursor {
@@ -161,44 +142,45 @@ pub fn read_downlinks_slot(c: Cursor, octets: &[u8], there: bool, identifier: u8
         end: c.end,
     };
     let l = read_list_front(from, octets, there, identifier);
-    let ListFrontRead::Read(front, first) = l else {
-        return refused(l.refusal());
+    let Ok((front, first)) = l else {
+        return refused(l.unwrap_err());
+    };
+    let Some(front) = front else {
+        return Judged {
+            verdict: Ok(first),
+            value: no_downlinks(),
+        };
     };
     if (front.count == 0) & (front.len == 0) {
         let none = [ZERO; 63];
-        let present = front.present;
-        return DownlinksRead {
-            verdict: Moved::To(first),
-            list: OptionalDownlinks {
-                present: present,
-                count: front.count,
+        return Judged {
+            verdict: Ok(first),
+            value: OptionalDownlinks {
+                present: true,
+                count: 0,
                 groups: none,
             },
         };
     }
     let mut groups = [ZERO; 63];
     let mut place = first;
-    let mut i: usize = 0;
-    while i < front.count {
+    for i in 0..front.count {
         let f = GroupIdentityDownlink::from_bitbuf(place, octets);
-        let DownlinkRead::Read(g, next) = f else {
-            return refused(f.refusal());
+        let Ok((g, next)) = f else {
+            return refused(f.unwrap_err());
         };
         groups[i] = g;
         place = next;
-        i += 1;
     }
-    let start = first.at;
-    let end = place.at;
-    if end - start == front.len {
-        return DownlinksRead {
-            verdict: Moved::To(place),
-            list: OptionalDownlinks {
-                present: front.present,
+    if place.at - first.at == front.len {
+        return Judged {
+            verdict: Ok(place),
+            value: OptionalDownlinks {
+                present: true,
                 count: front.count,
-                groups: groups,
+                groups,
             },
         };
     }
-    refused(INCONSISTENT_LENGTH)
+    refused(PduParseErr::InconsistentLength)
 }

@@ -7,9 +7,9 @@ ghost use Rattle.elements.specs.GroupAnswers.{location_accept_answer, location_a
 
 use crate::group_identity_downlink::{OptionalDownlinks, no_downlinks, read_downlinks_slot};
 use crate::type34_elem_id_dl::GROUP_IDENTITY_DOWNLINK;
-use crate::typed_pdu_fields::{OptionalU8Read, peek_type34_mbit_and_id, read_empty_table};
-use bits::bitbuffer::{Cursor, Field, Field8, Moved};
-use bits::pdu_parse_error::INCONSISTENT_LENGTH;
+use crate::typed_pdu_fields::{Judged, peek_type34_mbit_and_id, read_empty_table};
+use bits::bitbuffer::{Cursor, Moved};
+use bits::pdu_parse_error::PduParseErr;
 
 #[repr(C)]
 #[derive(Clone, Copy)]
@@ -25,18 +25,6 @@ pub struct OptionalLocationAccept {
     pub value: GroupIdentityLocationAccept,
 }
 
-#[derive(Clone, Copy)]
-pub struct LocationAcceptRead {
-    pub verdict: Moved,
-    pub location: GroupIdentityLocationAccept,
-}
-
-#[derive(Clone, Copy)]
-pub struct LocationAcceptSlot {
-    pub verdict: Moved,
-    pub location: OptionalLocationAccept,
-}
-
 pub fn no_location_accept() -> GroupIdentityLocationAccept
     ensures { result ≡ no_location_accept }
 {
@@ -47,22 +35,22 @@ pub fn no_location_accept() -> GroupIdentityLocationAccept
 }
 
 // A refusal, and nothing beside it.
-fn refused(n: u8) -> LocationAcceptRead
-    ensures { result ≡ location_accept_answer (halted n) }
+fn refused(e: PduParseErr) -> Judged<GroupIdentityLocationAccept>
+    ensures { result ≡ location_accept_answer (halted e) }
 {
-    LocationAcceptRead {
-        verdict: Moved::Refused(n),
-        location: no_location_accept(),
+    Judged {
+        verdict: Err(e),
+        value: no_location_accept(),
     }
 }
 
 // The slot of an absent structure, or of one that is refused.
-fn absent(verdict: Moved) -> LocationAcceptSlot
-    ensures { result ≡ record { verdict = verdict; location = absent_location_accept } }
+fn absent(verdict: Moved) -> Judged<OptionalLocationAccept>
+    ensures { result ≡ record { verdict = verdict; value = absent_location_accept } }
 {
-    LocationAcceptSlot {
-        verdict: verdict,
-        location: OptionalLocationAccept {
+    Judged {
+        verdict,
+        value: OptionalLocationAccept {
             present: false,
             value: no_location_accept(),
         },
@@ -89,74 +77,74 @@ impl OptionalLocationAccept {
 impl GroupIdentityLocationAccept {
     // The content of `len` bits: two bits, the O-bit, and behind an O-bit of 1 the list's slot and the closing M-bit. It has to
     // end where its length said.
-    pub fn from_bitbuf(c: Cursor, octets: &[u8], len: usize) -> LocationAcceptRead
+    pub fn from_bitbuf(c: Cursor, octets: &[u8], len: usize) -> Judged<GroupIdentityLocationAccept>
         ensures { result ≡ location_accept_answer (at (location_accept len) octets.now c) }
     {
-        let f = c.read_u8(octets, 1);
-        let Field8::Value(accept_reject, c1) = f else {
-            return refused(f.refusal());
+        let f = c.read::<u8>(octets, 1);
+        let Ok((accept_reject, c1)) = f else {
+            return refused(f.unwrap_err());
         };
         let p = c1.pass(octets, 1);
-        let Moved::To(c2) = p else {
-            return refused(p.refusal());
+        let Ok(c2) = p else {
+            return refused(p.unwrap_err());
         };
-        let o = c2.read_u8(octets, 1);
-        let Field8::Value(obit, c3) = o else {
-            return refused(o.refusal());
+        let o = c2.read::<u8>(octets, 1);
+        let Ok((obit, c3)) = o else {
+            return refused(o.unwrap_err());
         };
         let r = read_downlinks_slot(c3, octets, obit == 1, GROUP_IDENTITY_DOWNLINK);
         let v = r.verdict;
-        let Moved::To(c4) = v else {
-            return refused(v.refusal());
+        let Ok(c4) = v else {
+            return refused(v.unwrap_err());
         };
         let e = read_empty_table(c4, octets, obit == 1);
-        let Moved::To(c5) = e else {
-            return refused(e.refusal());
+        let Ok(c5) = e else {
+            return refused(e.unwrap_err());
         };
-        let start = c.at;
-        let end = c5.at;
-        if end - start == len {
-            let list = r.list;
-            return LocationAcceptRead {
-                verdict: Moved::To(c5),
-                location: GroupIdentityLocationAccept {
+        if c5.at - c.at == len {
+            let list = r.value;
+            return Judged {
+                verdict: Ok(c5),
+                value: GroupIdentityLocationAccept {
                     group_identity_accept_reject: accept_reject,
                     group_identity_downlink: list.part_by_part(),
                 },
             };
         }
-        refused(INCONSISTENT_LENGTH)
+        refused(PduParseErr::InconsistentLength)
     }
 }
 
 // The slot of a table that holds a location accept.
-pub fn read_location_accept_slot(c: Cursor, octets: &[u8], identifier: u8) -> LocationAcceptSlot
+pub fn read_location_accept_slot(
+    c: Cursor,
+    octets: &[u8],
+    identifier: u8,
+) -> Judged<OptionalLocationAccept>
     ensures { result ≡ location_accept_slot_answer (at (location_accept_slot identifier) octets.now c) }
 {
     let l = peek_type34_mbit_and_id(c, octets);
-    let OptionalU8Read::Read(id, c1) = l else {
-        return absent(Moved::Refused(l.refusal()));
+    let Ok((id, c1)) = l else {
+        return absent(Err(l.unwrap_err()));
     };
-    if id.present {
-        if id.value == identifier {
-            let f = c1.read(octets, 11);
-            let Field::Value(len, c2) = f else {
-                return absent(Moved::Refused(f.refusal()));
-            };
-            let r = GroupIdentityLocationAccept::from_bitbuf(c2, octets, len as usize);
-            let v = r.verdict;
-            let Moved::To(c3) = v else {
-                return absent(v);
-            };
-            let location = r.location;
-            return LocationAcceptSlot {
-                verdict: Moved::To(c3),
-                location: OptionalLocationAccept {
-                    present: true,
-                    value: location,
-                },
-            };
-        }
+    if id == Some(identifier) {
+        let f = c1.read::<u64>(octets, 11);
+        let Ok((len, c2)) = f else {
+            return absent(Err(f.unwrap_err()));
+        };
+        let r = GroupIdentityLocationAccept::from_bitbuf(c2, octets, len as usize);
+        let v = r.verdict;
+        let Ok(c3) = v else {
+            return absent(v);
+        };
+        let location = r.value;
+        return Judged {
+            verdict: Ok(c3),
+            value: OptionalLocationAccept {
+                present: true,
+                value: location,
+            },
+        };
     }
-    absent(Moved::To(c))
+    absent(Ok(c))
 }

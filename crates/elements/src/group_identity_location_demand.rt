@@ -7,9 +7,9 @@ ghost use Rattle.elements.specs.GroupAnswers.{location_demand_answer, location_d
 
 use crate::group_identity_uplink::{OptionalUplinks, no_uplinks, read_uplinks_slot};
 use crate::type34_elem_id_ul::GROUP_IDENTITY_UPLINK;
-use crate::typed_pdu_fields::{OptionalU8Read, peek_type34_mbit_and_id, read_empty_table};
-use bits::bitbuffer::{Cursor, Field, Field8, Moved};
-use bits::pdu_parse_error::{INCONSISTENT_LENGTH, INVALID_VALUE};
+use crate::typed_pdu_fields::{Judged, peek_type34_mbit_and_id, read_empty_table};
+use bits::bitbuffer::{Cursor, Moved};
+use bits::pdu_parse_error::PduParseErr;
 
 #[repr(C)]
 #[derive(Clone, Copy)]
@@ -25,18 +25,6 @@ pub struct OptionalLocationDemand {
     pub value: GroupIdentityLocationDemand,
 }
 
-#[derive(Clone, Copy)]
-pub struct LocationDemandRead {
-    pub verdict: Moved,
-    pub location: GroupIdentityLocationDemand,
-}
-
-#[derive(Clone, Copy)]
-pub struct LocationDemandSlot {
-    pub verdict: Moved,
-    pub location: OptionalLocationDemand,
-}
-
 pub fn no_location_demand() -> GroupIdentityLocationDemand
     ensures { result ≡ no_location_demand }
 {
@@ -47,22 +35,22 @@ pub fn no_location_demand() -> GroupIdentityLocationDemand
 }
 
 // A refusal, and nothing beside it.
-fn refused(n: u8) -> LocationDemandRead
-    ensures { result ≡ location_demand_answer (halted n) }
+fn refused(e: PduParseErr) -> Judged<GroupIdentityLocationDemand>
+    ensures { result ≡ location_demand_answer (halted e) }
 {
-    LocationDemandRead {
-        verdict: Moved::Refused(n),
-        location: no_location_demand(),
+    Judged {
+        verdict: Err(e),
+        value: no_location_demand(),
     }
 }
 
 // The slot of an absent structure, or of one that is refused.
-fn absent(verdict: Moved) -> LocationDemandSlot
-    ensures { result ≡ record { verdict = verdict; location = absent_location_demand } }
+fn absent(verdict: Moved) -> Judged<OptionalLocationDemand>
+    ensures { result ≡ record { verdict = verdict; value = absent_location_demand } }
 {
-    LocationDemandSlot {
-        verdict: verdict,
-        location: OptionalLocationDemand {
+    Judged {
+        verdict,
+        value: OptionalLocationDemand {
             present: false,
             value: no_location_demand(),
         },
@@ -89,77 +77,77 @@ impl OptionalLocationDemand {
 impl GroupIdentityLocationDemand {
     // The content of `len` bits: two bits, the O-bit, and behind an O-bit of 1 the list's slot and the closing M-bit. It has to
     // end where its length said.
-    pub fn from_bitbuf(c: Cursor, octets: &[u8], len: usize) -> LocationDemandRead
+    pub fn from_bitbuf(c: Cursor, octets: &[u8], len: usize) -> Judged<GroupIdentityLocationDemand>
         ensures { result ≡ location_demand_answer (at (location_demand len) octets.now c) }
     {
-        let f = c.read_u8(octets, 1);
-        let Field8::Value(reserved, c1) = f else {
-            return refused(f.refusal());
+        let f = c.read::<u8>(octets, 1);
+        let Ok((reserved, c1)) = f else {
+            return refused(f.unwrap_err());
         };
         if 0 < reserved {
-            return refused(INVALID_VALUE);
+            return refused(PduParseErr::InvalidValue);
         }
-        let m = c1.read_u8(octets, 1);
-        let Field8::Value(mode, c2) = m else {
-            return refused(m.refusal());
+        let m = c1.read::<u8>(octets, 1);
+        let Ok((mode, c2)) = m else {
+            return refused(m.unwrap_err());
         };
-        let o = c2.read_u8(octets, 1);
-        let Field8::Value(obit, c3) = o else {
-            return refused(o.refusal());
+        let o = c2.read::<u8>(octets, 1);
+        let Ok((obit, c3)) = o else {
+            return refused(o.unwrap_err());
         };
         let r = read_uplinks_slot(c3, octets, obit == 1, GROUP_IDENTITY_UPLINK);
         let v = r.verdict;
-        let Moved::To(c4) = v else {
-            return refused(v.refusal());
+        let Ok(c4) = v else {
+            return refused(v.unwrap_err());
         };
         let e = read_empty_table(c4, octets, obit == 1);
-        let Moved::To(c5) = e else {
-            return refused(e.refusal());
+        let Ok(c5) = e else {
+            return refused(e.unwrap_err());
         };
-        let start = c.at;
-        let end = c5.at;
-        if end - start == len {
-            let list = r.list;
-            return LocationDemandRead {
-                verdict: Moved::To(c5),
-                location: GroupIdentityLocationDemand {
+        if c5.at - c.at == len {
+            let list = r.value;
+            return Judged {
+                verdict: Ok(c5),
+                value: GroupIdentityLocationDemand {
                     group_identity_attach_detach_mode: mode,
                     group_identity_uplink: list.part_by_part(),
                 },
             };
         }
-        refused(INCONSISTENT_LENGTH)
+        refused(PduParseErr::InconsistentLength)
     }
 }
 
 // The slot of a table that holds a location demand.
-pub fn read_location_demand_slot(c: Cursor, octets: &[u8], identifier: u8) -> LocationDemandSlot
+pub fn read_location_demand_slot(
+    c: Cursor,
+    octets: &[u8],
+    identifier: u8,
+) -> Judged<OptionalLocationDemand>
     ensures { result ≡ location_demand_slot_answer (at (location_demand_slot identifier) octets.now c) }
 {
     let l = peek_type34_mbit_and_id(c, octets);
-    let OptionalU8Read::Read(id, c1) = l else {
-        return absent(Moved::Refused(l.refusal()));
+    let Ok((id, c1)) = l else {
+        return absent(Err(l.unwrap_err()));
     };
-    if id.present {
-        if id.value == identifier {
-            let f = c1.read(octets, 11);
-            let Field::Value(len, c2) = f else {
-                return absent(Moved::Refused(f.refusal()));
-            };
-            let r = GroupIdentityLocationDemand::from_bitbuf(c2, octets, len as usize);
-            let v = r.verdict;
-            let Moved::To(c3) = v else {
-                return absent(v);
-            };
-            let location = r.location;
-            return LocationDemandSlot {
-                verdict: Moved::To(c3),
-                location: OptionalLocationDemand {
-                    present: true,
-                    value: location,
-                },
-            };
-        }
+    if id == Some(identifier) {
+        let f = c1.read::<u64>(octets, 11);
+        let Ok((len, c2)) = f else {
+            return absent(Err(f.unwrap_err()));
+        };
+        let r = GroupIdentityLocationDemand::from_bitbuf(c2, octets, len as usize);
+        let v = r.verdict;
+        let Ok(c3) = v else {
+            return absent(v);
+        };
+        let location = r.value;
+        return Judged {
+            verdict: Ok(c3),
+            value: OptionalLocationDemand {
+                present: true,
+                value: location,
+            },
+        };
     }
-    absent(Moved::To(c))
+    absent(Ok(c))
 }

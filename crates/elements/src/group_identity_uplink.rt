@@ -1,15 +1,14 @@
 // Group identity uplink (EN 300 392-2, clause 16.10.27).
-ghost use Rattle.std.specs.Prelude.{◌≡◌};
-ghost use Rattle.std.proofs.Math.Option.{none};
-ghost use Rattle.bits.specs.Placed.{at, refusal, halted};
-ghost use Rattle.elements.specs.Groups.{uplink};
+ghost use Rattle.std.specs.Prelude.{◌≡◌, None};
+ghost use Rattle.bits.specs.Placed.{at, as_read, halted};
+ghost use Rattle.elements.specs.Groups.{uplink, uplink_of};
 ghost use Rattle.elements.specs.Lists.{uplinks, list_of};
-ghost use Rattle.elements.specs.GroupAnswers.{as_uplink, uplinks_answer, nested_slot_if};
+ghost use Rattle.elements.specs.GroupAnswers.{uplinks_answer, nested_slot_if};
 
-use crate::group_address::{AddressRead, read_uplink_address};
-use crate::typed_pdu_fields::{ListFrontRead, OptionalU8Read, read_list_front, read_optional_u8};
-use bits::bitbuffer::{Cursor, Field8, Moved};
-use bits::pdu_parse_error::INCONSISTENT_LENGTH;
+use crate::group_address::{GroupAddress, read_uplink_address};
+use crate::typed_pdu_fields::{Judged, read_list_front, read_optional};
+use bits::bitbuffer::{Cursor, Read};
+use bits::pdu_parse_error::PduParseErr;
 
 // Flat and without padding, the widest fields first: a list has 63 of them, and is cleared as one block.
 #[repr(C)]
@@ -36,29 +35,6 @@ pub struct OptionalUplinks {
     pub groups: [GroupIdentityUplink; 63],
 }
 
-#[derive(Clone, Copy)]
-pub enum UplinkRead {
-    Read(GroupIdentityUplink, Cursor),
-    Refused(u8),
-}
-
-impl UplinkRead {
-    pub fn refusal(self) -> u8
-        ensures { result ≡ refusal (as_uplink self) }
-    {
-        match self {
-            UplinkRead::Read(_, _) => 0,
-            UplinkRead::Refused(n) => n,
-        }
-    }
-}
-
-#[derive(Clone, Copy)]
-pub struct UplinksRead {
-    pub verdict: Moved,
-    pub list: OptionalUplinks,
-}
-
 const ZERO: GroupIdentityUplink = GroupIdentityUplink {
     gssi: 0,
     address_extension: 0,
@@ -73,7 +49,7 @@ const ZERO: GroupIdentityUplink = GroupIdentityUplink {
 };
 
 pub fn no_uplinks() -> OptionalUplinks
-    ensures { result ≡ list_of uplinks none }
+    ensures { result ≡ list_of uplinks None }
 {
     let groups = [ZERO; 63];
     OptionalUplinks {
@@ -84,12 +60,12 @@ pub fn no_uplinks() -> OptionalUplinks
 }
 
 // A refusal, and an absent list beside it.
-fn refused(n: u8) -> UplinksRead
-    ensures { result ≡ uplinks_answer (halted n) }
+fn refused(e: PduParseErr) -> Judged<OptionalUplinks>
+    ensures { result ≡ uplinks_answer (halted e) }
 {
-    UplinksRead {
-        verdict: Moved::Refused(n),
-        list: no_uplinks(),
+    Judged {
+        verdict: Err(e),
+        value: no_uplinks(),
     }
 }
 
@@ -107,48 +83,52 @@ impl OptionalUplinks {
     }
 }
 
+// The group of its parts.
+fn group_of(
+    class_of_usage: Option<u8>,
+    detachment: Option<u8>,
+    address: GroupAddress,
+) -> GroupIdentityUplink
+    ensures { result ≡ uplink_of class_of_usage detachment address }
+{
+    GroupIdentityUplink {
+        gssi: address.gssi.unwrap_or(0),
+        address_extension: address.address_extension.unwrap_or(0),
+        vgssi: address.vgssi.unwrap_or(0),
+        class_of_usage: class_of_usage.unwrap_or(0) as u16,
+        class_of_usage_present: class_of_usage.is_some(),
+        group_identity_detachment_uplink_present: detachment.is_some(),
+        group_identity_detachment_uplink: detachment.unwrap_or(0),
+        gssi_present: address.gssi.is_some(),
+        address_extension_present: address.address_extension.is_some(),
+        vgssi_present: address.vgssi.is_some(),
+    }
+}
+
 impl GroupIdentityUplink {
-    pub fn from_bitbuf(c: Cursor, octets: &[u8]) -> UplinkRead
-        ensures { as_uplink result ≡ at uplink octets.now c }
+    pub fn from_bitbuf(c: Cursor, octets: &[u8]) -> Read<GroupIdentityUplink>
+        ensures { as_read result ≡ at uplink octets.now c }
     {
-        let k = c.read_u8(octets, 1);
-        let Field8::Value(attach_detach_type_identifier, c1) = k else {
-            return UplinkRead::Refused(k.refusal());
-        };
-        let u = read_optional_u8(c1, octets, attach_detach_type_identifier == 0, 3);
-        let OptionalU8Read::Read(class_of_usage, c2) = u else {
-            return UplinkRead::Refused(u.refusal());
-        };
-        let d = read_optional_u8(c2, octets, attach_detach_type_identifier == 1, 2);
-        let OptionalU8Read::Read(detachment, c3) = d else {
-            return UplinkRead::Refused(d.refusal());
-        };
+        let (kind, c1) = c.read::<u8>(octets, 1)?;
+        let (class_of_usage, c2) = read_optional(c1, octets, kind == 0, 3)?;
+        let (detachment, c3) = read_optional(c2, octets, kind == 1, 2)?;
         let a = read_uplink_address(c3, octets);
-        let AddressRead::Read(address, c4) = a else {
-            return UplinkRead::Refused(a.refusal());
+        let Ok((address, c4)) = a else {
+            return Err(a.unwrap_err());
         };
-        UplinkRead::Read(
-            GroupIdentityUplink {
-                gssi: address.gssi,
-                address_extension: address.address_extension,
-                vgssi: address.vgssi,
-                class_of_usage: class_of_usage.value as u16,
-                class_of_usage_present: class_of_usage.present,
-                group_identity_detachment_uplink_present: detachment.present,
-                group_identity_detachment_uplink: detachment.value,
-                gssi_present: address.gssi_present,
-                address_extension_present: address.address_extension_present,
-                vgssi_present: address.vgssi_present,
-            },
-            c4,
-        )
+        Ok((group_of(class_of_usage, detachment, address), c4))
     }
 }
 
 // The slot of a list of groups, where there is such a slot: the list has to end where its length said. A list without groups is
 // given at once: an array that nothing is put into needn't be copied. The cursor is handed on number by number, as the caller just
 // stored it: copied as a whole, it would wait for both.
-pub fn read_uplinks_slot(c: Cursor, octets: &[u8], there: bool, identifier: u8) -> UplinksRead
+pub fn read_uplinks_slot(
+    c: Cursor,
+    octets: &[u8],
+    there: bool,
+    identifier: u8,
+) -> Judged<OptionalUplinks>
     ensures { result ≡ uplinks_answer (at (nested_slot_if uplinks identifier there) octets.now c) }
 {
     let from = Cursor {
@@ -156,44 +136,45 @@ pub fn read_uplinks_slot(c: Cursor, octets: &[u8], there: bool, identifier: u8) 
         end: c.end,
     };
     let l = read_list_front(from, octets, there, identifier);
-    let ListFrontRead::Read(front, first) = l else {
-        return refused(l.refusal());
+    let Ok((front, first)) = l else {
+        return refused(l.unwrap_err());
+    };
+    let Some(front) = front else {
+        return Judged {
+            verdict: Ok(first),
+            value: no_uplinks(),
+        };
     };
     if (front.count == 0) & (front.len == 0) {
         let none = [ZERO; 63];
-        let present = front.present;
-        return UplinksRead {
-            verdict: Moved::To(first),
-            list: OptionalUplinks {
-                present: present,
-                count: front.count,
+        return Judged {
+            verdict: Ok(first),
+            value: OptionalUplinks {
+                present: true,
+                count: 0,
                 groups: none,
             },
         };
     }
     let mut groups = [ZERO; 63];
     let mut place = first;
-    let mut i: usize = 0;
-    while i < front.count {
+    for i in 0..front.count {
         let f = GroupIdentityUplink::from_bitbuf(place, octets);
-        let UplinkRead::Read(g, next) = f else {
-            return refused(f.refusal());
+        let Ok((g, next)) = f else {
+            return refused(f.unwrap_err());
         };
         groups[i] = g;
         place = next;
-        i += 1;
     }
-    let start = first.at;
-    let end = place.at;
-    if end - start == front.len {
-        return UplinksRead {
-            verdict: Moved::To(place),
-            list: OptionalUplinks {
-                present: front.present,
+    if place.at - first.at == front.len {
+        return Judged {
+            verdict: Ok(place),
+            value: OptionalUplinks {
+                present: true,
                 count: front.count,
-                groups: groups,
+                groups,
             },
         };
     }
-    refused(INCONSISTENT_LENGTH)
+    refused(PduParseErr::InconsistentLength)
 }

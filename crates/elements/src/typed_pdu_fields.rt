@@ -1,31 +1,25 @@
 // Numbers and elements that may be absent, and the typed elements of annex E: type 2, type 3 and type 4, a table of listed
 // identifiers, and the unlisted ones that the skipping reading passes.
-ghost use Rattle.std.specs.Prelude.{◌≡◌, true, map, ◌+◌, min};
-ghost use Rattle.bits.specs.Reader.{word};
-ghost use Rattle.bits.specs.Placed.{window, at, as_field, as_moved, refusal};
-ghost use Rattle.elements.specs.Numbers.{u8_of, u64_of, type2_as};
-ghost use Rattle.elements.specs.Generics.{data_width, kept};
+ghost use Rattle.std.specs.Prelude.{◌≡◌, ◌+◌, ◌-◌, ◌≤◌, true, option_map, length, Some, None};
+ghost use Rattle.bits.specs.Reader.{word, optional};
+ghost use Rattle.bits.specs.Placed.{window, at, as_by, as_read, as_moved, halted};
+ghost use Rattle.elements.specs.Numbers.{u8_of, u64_of, type2};
+ghost use Rattle.elements.specs.Generics.{kept};
 ghost use Rattle.elements.specs.Table.{look, closing, is_listed};
 ghost use Rattle.elements.specs.Kinds.{identifier_of};
-ghost use Rattle.elements.specs.Rows.{row_of, rows_of, slots_from, elsewhere, skipping, table_end, empty_table, behind_part, part, sized, generic_type3_at, generic_type4_at, generic_slot, type3_from, type4_from};
-ghost use Rattle.elements.specs.Answers.{optional_u8, optional_u32, optional_u64, opening, as_optional_u8, as_optional_u32, as_optional_u64, as_skipped, generic_answer, slots_answer};
-ghost use Rattle.elements.specs.Fronts.{list_front, as_list_front};
+ghost use Rattle.elements.specs.Rows.{rows_of, slots_from, elsewhere, skipping, table_end, empty_table, behind_part, part, sized, generic_type3_at, generic_type4_at, generic_slot, type3_from, type4_from};
+ghost use Rattle.elements.specs.Answers.{opening, slots_answer};
+ghost use Rattle.elements.specs.Fronts.{list_front};
 
-use bits::bitbuffer::{Cursor, Field, Field8, Field32, Moved};
-use bits::pdu_parse_error::{INVALID_TRAILING_MBIT_VALUE, TYPE4_UNDERFLOW};
+use bits::bitbuffer::{Cursor, Moved, Number, Read};
+use bits::pdu_parse_error::PduParseErr;
 
-// What may be absent is presence and value; what is absent holds zero.
+// What may be absent is presence and value in a record, since records go to C, which takes no enum; what is absent holds zero.
 #[repr(C)]
 #[derive(Clone, Copy)]
 pub struct OptionalU8 {
     pub present: bool,
     pub value: u8,
-}
-
-#[derive(Clone, Copy)]
-pub struct OptionalU32 {
-    pub present: bool,
-    pub value: u32,
 }
 
 #[repr(C)]
@@ -40,177 +34,68 @@ pub const NO_NUMBER: OptionalU64 = OptionalU64 {
     value: 0,
 };
 
-#[derive(Clone, Copy)]
-pub enum OptionalU8Read {
-    Read(OptionalU8, Cursor),
-    Refused(u8),
-}
+impl From<Option<u8>> for OptionalU8 {
+    ghost from_gives = { λ o r. r ≡ u8_of o };
 
-#[derive(Clone, Copy)]
-pub enum OptionalU32Read {
-    Read(OptionalU32, Cursor),
-    Refused(u8),
-}
-
-#[derive(Clone, Copy)]
-pub enum OptionalU64Read {
-    Read(OptionalU64, Cursor),
-    Refused(u8),
-}
-
-impl OptionalU8Read {
-    // The refusal's number, 0 if there is none.
-    pub fn refusal(self) -> u8
-        ensures { result ≡ refusal (as_optional_u8 self) }
-    {
-        match self {
-            OptionalU8Read::Read(_, _) => 0,
-            OptionalU8Read::Refused(n) => n,
-        }
-    }
-}
-
-impl OptionalU32Read {
-    pub fn refusal(self) -> u8
-        ensures { result ≡ refusal (as_optional_u32 self) }
-    {
-        match self {
-            OptionalU32Read::Read(_, _) => 0,
-            OptionalU32Read::Refused(n) => n,
-        }
-    }
-}
-
-impl OptionalU64Read {
-    pub fn refusal(self) -> u8
-        ensures { result ≡ refusal (as_optional_u64 self) }
-    {
-        match self {
-            OptionalU64Read::Read(_, _) => 0,
-            OptionalU64Read::Refused(n) => n,
-        }
-    }
-}
-
-// A field of at most 8 bits that is there if it is wanted.
-pub fn read_optional_u8(c: Cursor, octets: &[u8], wanted: bool, width: usize) -> OptionalU8Read
-    ensures { as_optional_u8 result ≡ at (optional_u8 wanted (word 8 width)) octets.now c }
-{
-    if wanted {
-        let f = c.read_u8(octets, width);
-        let Field8::Value(v, c1) = f else {
-            return OptionalU8Read::Refused(f.refusal());
-        };
-        return OptionalU8Read::Read(
-            OptionalU8 {
-                present: true,
-                value: v,
-            },
-            c1,
-        );
-    }
-    OptionalU8Read::Read(
+    fn from(o: Option<u8>) -> OptionalU8 {
         OptionalU8 {
-            present: false,
-            value: 0,
-        },
-        c,
-    )
+            present: o.is_some(),
+            value: o.unwrap_or(0),
+        }
+    }
 }
 
-// The same for at most 32 bits.
-pub fn read_optional_u32(c: Cursor, octets: &[u8], wanted: bool, width: usize) -> OptionalU32Read
-    ensures { as_optional_u32 result ≡ at (optional_u32 wanted (word 32 width)) octets.now c }
-{
-    if wanted {
-        let f = c.read_u32(octets, width);
-        let Field32::Value(v, c1) = f else {
-            return OptionalU32Read::Refused(f.refusal());
-        };
-        return OptionalU32Read::Read(
-            OptionalU32 {
-                present: true,
-                value: v,
-            },
-            c1,
-        );
-    }
-    OptionalU32Read::Read(
-        OptionalU32 {
-            present: false,
-            value: 0,
-        },
-        c,
-    )
-}
+impl From<Option<u64>> for OptionalU64 {
+    ghost from_gives = { λ o r. r ≡ u64_of o };
 
-// The same for at most 64 bits.
-pub fn read_optional_u64(c: Cursor, octets: &[u8], wanted: bool, width: usize) -> OptionalU64Read
-    ensures { as_optional_u64 result ≡ at (optional_u64 wanted (word 64 width)) octets.now c }
-{
-    if wanted {
-        let f = c.read(octets, width);
-        let Field::Value(v, c1) = f else {
-            return OptionalU64Read::Refused(f.refusal());
-        };
-        return OptionalU64Read::Read(
-            OptionalU64 {
-                present: true,
-                value: v,
-            },
-            c1,
-        );
-    }
-    OptionalU64Read::Read(
+    fn from(o: Option<u64>) -> OptionalU64 {
         OptionalU64 {
-            present: false,
-            value: 0,
-        },
-        c,
-    )
+            present: o.is_some(),
+            value: o.unwrap_or(0),
+        }
+    }
+}
+
+// A field that is there if it is wanted.
+pub fn read_optional<T: Number>(
+    c: Cursor,
+    octets: &[u8],
+    wanted: bool,
+    width: usize,
+) -> Read<Option<T>>
+    ensures { as_by (option_map T.value) result ≡ at (optional Some None wanted (word T.BITS width)) octets.now c }
+{
+    if wanted {
+        let (v, c1) = c.read::<T>(octets, width)?;
+        return Ok((Some(v), c1));
+    }
+    Ok((None, c))
 }
 
 // A type 2 element: P-bit, then the value if it is 1.
-pub fn parse_type2_generic(c: Cursor, octets: &[u8], width: usize) -> OptionalU64Read
-    ensures { as_optional_u64 result ≡ at (type2_as u64_of (word 64 width)) octets.now c }
+pub fn parse_type2_generic<T: Number>(c: Cursor, octets: &[u8], width: usize) -> Read<Option<T>>
+    ensures { as_by (option_map T.value) result ≡ at (type2 (word T.BITS width)) octets.now c }
 {
-    let f = c.read_u8(octets, 1);
-    let Field8::Value(p, c1) = f else {
-        return OptionalU64Read::Refused(f.refusal());
-    };
-    read_optional_u64(c1, octets, p == 1, width)
-}
-
-// The same for at most 8 bits.
-pub fn parse_type2_u8(c: Cursor, octets: &[u8], width: usize) -> OptionalU8Read
-    ensures { as_optional_u8 result ≡ at (type2_as u8_of (word 8 width)) octets.now c }
-{
-    let f = c.read_u8(octets, 1);
-    let Field8::Value(p, c1) = f else {
-        return OptionalU8Read::Refused(f.refusal());
-    };
-    read_optional_u8(c1, octets, p == 1, width)
+    let (p, c1) = c.read::<u8>(octets, 1)?;
+    read_optional(c1, octets, p == 1, width)
 }
 
 // The M-bit, and behind an M-bit of 1 the identifier; the caller keeps its place if the element is not its own.
-pub fn peek_type34_mbit_and_id(c: Cursor, octets: &[u8]) -> OptionalU8Read
-    ensures { as_optional_u8 result ≡ at opening octets.now c }
+pub fn peek_type34_mbit_and_id(c: Cursor, octets: &[u8]) -> Read<Option<u8>>
+    ensures { as_read result ≡ at opening octets.now c }
 {
-    parse_type2_u8(c, octets, 4)
+    parse_type2_generic(c, octets, 4)
 }
 
 // The closing M-bit.
 pub fn read_closing_mbit(c: Cursor, octets: &[u8]) -> Moved
     ensures { as_moved result ≡ at closing octets.now c }
 {
-    let f = c.read_u8(octets, 1);
-    let Field8::Value(m, c1) = f else {
-        return Moved::Refused(f.refusal());
-    };
+    let (m, c1) = c.read::<u8>(octets, 1)?;
     if m == 0 {
-        return Moved::To(c1);
+        return Ok(c1);
     }
-    Moved::Refused(INVALID_TRAILING_MBIT_VALUE)
+    Err(PduParseErr::InvalidTrailingMbitValue)
 }
 
 // Past the end of a table that holds nothing, if there is a table.
@@ -220,7 +105,7 @@ pub fn read_empty_table(c: Cursor, octets: &[u8], there: bool) -> Moved
     if there {
         return read_closing_mbit(c, octets);
     }
-    Moved::To(c)
+    Ok(c)
 }
 
 // A type 3 element: its declared length, and its first 64 bits as a number.
@@ -265,12 +150,6 @@ pub struct Generic {
     pub present: bool,
 }
 
-#[derive(Clone, Copy)]
-pub struct GenericRead {
-    pub verdict: Moved,
-    pub element: Generic,
-}
-
 pub const ABSENT: Generic = Generic {
     present: false,
     len: 0,
@@ -282,335 +161,198 @@ pub const ABSENT: Generic = Generic {
 pub const NO_GENERICS: [Generic; 8] = [ABSENT; 8];
 
 // The element of a type 3 slot, and of a type 4 slot.
-pub fn type3_of(g: Generic) -> OptionalType3
-    ensures { result ≡ type3_from g }
-{
-    OptionalType3 {
-        present: g.present,
-        value: Type3FieldGeneric {
-            len: g.len as usize,
-            data: g.data,
-        },
+impl From<Generic> for OptionalType3 {
+    ghost from_gives = { λ g r. r ≡ type3_from g };
+
+    fn from(g: Generic) -> OptionalType3 {
+        OptionalType3 {
+            present: g.present,
+            value: Type3FieldGeneric {
+                len: g.len as usize,
+                data: g.data,
+            },
+        }
     }
 }
 
-pub fn type4_of(g: Generic) -> OptionalType4
-    ensures { result ≡ type4_from g }
-{
-    OptionalType4 {
-        present: g.present,
-        value: Type4FieldGeneric {
-            len: g.len as usize,
-            elems: g.elems as usize,
-            data: g.data,
-        },
-    }
-}
+impl From<Generic> for OptionalType4 {
+    ghost from_gives = { λ g r. r ≡ type4_from g };
 
-fn at_most_64(n: usize) -> usize
-    ensures { result ≡ min n data_width }
-{
-    if n < 64 { n } else { 64 }
+    fn from(g: Generic) -> OptionalType4 {
+        OptionalType4 {
+            present: g.present,
+            value: Type4FieldGeneric {
+                len: g.len as usize,
+                elems: g.elems as usize,
+                data: g.data,
+            },
+        }
+    }
 }
 
 // The first 64 of `n` bits as a number; the others are passed.
-fn read_kept(c: Cursor, octets: &[u8], n: usize) -> Field
-    ensures { as_field result ≡ at (kept n) octets.now c }
+fn read_kept(c: Cursor, octets: &[u8], n: usize) -> Read<u64>
+    ensures { as_read result ≡ at (kept n) octets.now c }
 {
-    let w = at_most_64(n);
-    let f = c.read(octets, w);
-    let Field::Value(v, c1) = f else {
-        return f;
-    };
-    let p = c1.pass(octets, n - w);
-    let Moved::To(c2) = p else {
-        return Field::Refused(p.refusal());
-    };
-    Field::Value(v, c2)
+    let w = n.min(64);
+    let (v, c1) = c.read::<u64>(octets, w)?;
+    let c2 = c1.pass(octets, n - w)?;
+    Ok((v, c2))
 }
 
 // A generic type 3 element, from its length on.
-pub fn parse_type3_generic(c: Cursor, octets: &[u8]) -> GenericRead
-    ensures { result ≡ generic_answer (at (sized generic_type3_at) octets.now c) }
+pub fn parse_type3_generic(c: Cursor, octets: &[u8]) -> Read<Generic>
+    ensures { as_read result ≡ at (sized generic_type3_at) octets.now c }
 {
-    let f = c.read_u32(octets, 11);
-    let Field32::Value(len, c1) = f else {
-        return GenericRead {
-            verdict: Moved::Refused(f.refusal()),
-            element: ABSENT,
-        };
-    };
-    let d = read_kept(c1, octets, len as usize);
-    let Field::Value(data, c2) = d else {
-        return GenericRead {
-            verdict: Moved::Refused(d.refusal()),
-            element: ABSENT,
-        };
-    };
-    GenericRead {
-        verdict: Moved::To(c2),
-        element: Generic {
+    let (len, c1) = c.read::<u32>(octets, 11)?;
+    let (data, c2) = read_kept(c1, octets, len as usize)?;
+    Ok((
+        Generic {
             present: true,
-            len: len,
+            len,
             padding: 0,
             elems: 0,
-            data: data,
+            data,
         },
-    }
+        c2,
+    ))
 }
 
 // A generic type 4 element, from its length on.
-pub fn parse_type4_generic(c: Cursor, octets: &[u8]) -> GenericRead
-    ensures { result ≡ generic_answer (at (sized generic_type4_at) octets.now c) }
+pub fn parse_type4_generic(c: Cursor, octets: &[u8]) -> Read<Generic>
+    ensures { as_read result ≡ at (sized generic_type4_at) octets.now c }
 {
-    let f = c.read_u32(octets, 11);
-    let Field32::Value(len, c1) = f else {
-        return GenericRead {
-            verdict: Moved::Refused(f.refusal()),
-            element: ABSENT,
-        };
-    };
-    let k = c1.read_u8(octets, 6);
-    let Field8::Value(elems, c2) = k else {
-        return GenericRead {
-            verdict: Moved::Refused(k.refusal()),
-            element: ABSENT,
-        };
-    };
+    let (len, c1) = c.read::<u32>(octets, 11)?;
+    let (elems, c2) = c1.read::<u8>(octets, 6)?;
     if len < 6 {
-        return GenericRead {
-            verdict: Moved::Refused(TYPE4_UNDERFLOW),
-            element: ABSENT,
-        };
+        return Err(PduParseErr::Type4Underflow);
     }
     let n = len - 6;
-    let d = read_kept(c2, octets, n as usize);
-    let Field::Value(data, c3) = d else {
-        return GenericRead {
-            verdict: Moved::Refused(d.refusal()),
-            element: ABSENT,
-        };
-    };
-    GenericRead {
-        verdict: Moved::To(c3),
-        element: Generic {
+    let (data, c3) = read_kept(c2, octets, n as usize)?;
+    Ok((
+        Generic {
             present: true,
             len: n,
             padding: 0,
-            elems: elems,
-            data: data,
+            elems,
+            data,
         },
-    }
+        c3,
+    ))
 }
 
-// What stands before the groups of a list: whether it is there, how many they are, and in how many bits.
+// What stands before the groups of a list: how many they are, and in how many bits.
 #[derive(Clone, Copy)]
 pub struct ListFront {
-    pub present: bool,
     pub count: usize,
     pub len: usize,
 }
 
-#[derive(Clone, Copy)]
-pub enum ListFrontRead {
-    Read(ListFront, Cursor),
-    Refused(u8),
-}
-
-impl ListFrontRead {
-    pub fn refusal(self) -> u8
-        ensures { result ≡ refusal (as_list_front self) }
-    {
-        match self {
-            ListFrontRead::Read(_, _) => 0,
-            ListFrontRead::Refused(n) => n,
-        }
-    }
-}
-
 // The slot of a list of groups up to the first of them, where there is such a slot.
-pub fn read_list_front(c: Cursor, octets: &[u8], there: bool, identifier: u8) -> ListFrontRead
-    ensures { as_list_front result ≡ at (list_front identifier there) octets.now c }
+pub fn read_list_front(
+    c: Cursor,
+    octets: &[u8],
+    there: bool,
+    identifier: u8,
+) -> Read<Option<ListFront>>
+    ensures { as_read result ≡ at (list_front identifier there) octets.now c }
 {
     if there {
-        let l = peek_type34_mbit_and_id(c, octets);
-        let OptionalU8Read::Read(id, c1) = l else {
-            return ListFrontRead::Refused(l.refusal());
-        };
-        if id.present {
-            if id.value == identifier {
-                let f = c1.read(octets, 11);
-                let Field::Value(size, c2) = f else {
-                    return ListFrontRead::Refused(f.refusal());
-                };
-                let k = c2.read_u8(octets, 6);
-                let Field8::Value(elems, c3) = k else {
-                    return ListFrontRead::Refused(k.refusal());
-                };
-                if size < 6 {
-                    return ListFrontRead::Refused(TYPE4_UNDERFLOW);
-                }
-                return ListFrontRead::Read(
-                    ListFront {
-                        present: true,
-                        count: elems as usize,
-                        len: size as usize - 6,
-                    },
-                    c3,
-                );
+        let (id, c1) = peek_type34_mbit_and_id(c, octets)?;
+        if id == Some(identifier) {
+            let (size, c2) = c1.read::<u64>(octets, 11)?;
+            let (elems, c3) = c2.read::<u8>(octets, 6)?;
+            if size < 6 {
+                return Err(PduParseErr::Type4Underflow);
             }
+            return Ok((
+                Some(ListFront {
+                    count: elems as usize,
+                    len: size as usize - 6,
+                }),
+                c3,
+            ));
         }
     }
-    ListFrontRead::Read(
-        ListFront {
-            present: false,
-            count: 0,
-            len: 0,
-        },
-        c,
-    )
+    Ok((None, c))
+}
+
+// The kind of element that a listed identifier opens.
+#[derive(Clone, Copy, PartialEq, Eq)]
+pub enum Kind {
+    Type3,
+    Type4,
+    LocationDemand,
+    LocationAccept,
+    Downlinks,
 }
 
 // A row of a message's table: a listed identifier, and the kind of element that it opens.
 #[derive(Clone, Copy)]
 pub struct Row {
     pub identifier: u8,
-    pub kind: u8,
+    pub kind: Kind,
 }
 
-pub const TYPE3: u8 = 0;
-
-pub const TYPE4: u8 = 1;
-
-pub const LOCATION_DEMAND: u8 = 2;
-
-pub const LOCATION_ACCEPT: u8 = 3;
-
-pub const DOWNLINKS: u8 = 4;
-
-pub const NO_ROW: Row = Row {
-    identifier: 0,
-    kind: TYPE3,
-};
-
-// A message's table of listed identifiers, in order: the first `count` rows.
-#[derive(Clone, Copy)]
-pub struct Table {
-    pub count: usize,
-    pub rows: [Row; 8],
-}
-
-fn at_most_8(n: usize) -> usize
-    ensures { result ≡ min n 8 }
+// Whether a table, or a part of it, has an identifier.
+pub fn is_listed(table: &[Row], identifier: u8) -> bool
+    ensures { result ≡ is_listed identifier_of (rows_of table.now) identifier }
 {
-    if n < 8 { n } else { 8 }
-}
-
-// Whether an identifier stands in the rows of a table from `from` up to `to`.
-fn has_row(table: Table, from: usize, to: usize, identifier: u8) -> bool
-    ensures { result ≡ is_listed identifier_of (map row_of (slots_from table from to)) identifier }
-{
-    let end = at_most_8(to);
-    let mut i = from;
-    while i < end {
-        let row = table.rows[i];
-        if row.identifier == identifier {
-            return true;
-        }
-        i += 1;
-    }
-    false
-}
-
-// Whether a table has an identifier.
-pub fn is_listed(table: Table, identifier: u8) -> bool
-    ensures { result ≡ is_listed identifier_of (rows_of table) identifier }
-{
-    has_row(table, 0, table.count, identifier)
+    table.iter().any(|row| identifier == row.identifier)
 }
 
 // How many unlisted elements were skipped, and the cursor behind them.
-#[derive(Clone, Copy)]
-pub enum Skipped {
-    Count(usize, Cursor),
-    Refused(u8),
-}
-
-impl Skipped {
-    pub fn refusal(self) -> u8
-        ensures { result ≡ refusal (as_skipped self) }
-    {
-        match self {
-            Skipped::Count(_, _) => 0,
-            Skipped::Refused(n) => n,
-        }
-    }
-}
+pub type Skipped = Read<usize>;
 
 // The unlisted elements that stand here, each passed whole.
-fn skip_unlisted(c: Cursor, octets: &[u8], table: Table) -> Skipped
-    ensures { as_skipped result ≡ at (skipping (rows_of table) true) octets.now c }
+fn skip_unlisted(c: Cursor, octets: &[u8], table: &[Row]) -> Skipped
+    ensures { as_read result ≡ at (skipping (rows_of table.now) true) octets.now c }
 {
     let mut place = c;
     let mut n: usize = 0;
     loop {
-        let l = peek_type34_mbit_and_id(place, octets);
-        let OptionalU8Read::Read(id, c1) = l else {
-            return Skipped::Refused(l.refusal());
+        let (id, c1) = peek_type34_mbit_and_id(place, octets)?;
+        let Some(identifier) = id else {
+            return Ok((n, place));
         };
-        let ended = !id.present;
-        if ended {
-            return Skipped::Count(n, place);
+        if is_listed(table, identifier) {
+            return Ok((n, place));
         }
-        if is_listed(table, id.value) {
-            return Skipped::Count(n, place);
-        }
-        let f = c1.read(octets, 11);
-        let Field::Value(len, c2) = f else {
-            return Skipped::Refused(f.refusal());
-        };
-        let p = c2.pass(octets, len as usize);
-        let Moved::To(c3) = p else {
-            return Skipped::Refused(p.refusal());
-        };
-        place = c3;
+        let (len, c2) = c1.read::<u64>(octets, 11)?;
+        place = c2.pass(octets, len as usize)?;
         n += 1;
     }
 }
 
 // The same where the reading is the skipping one; the strict one passes none.
-pub fn skip_if(c: Cursor, octets: &[u8], table: Table, wanted: bool) -> Skipped
-    ensures { as_skipped result ≡ at (skipping (rows_of table) wanted) octets.now c }
+pub fn skip_if(c: Cursor, octets: &[u8], table: &[Row], wanted: bool) -> Skipped
+    ensures { as_read result ≡ at (skipping (rows_of table.now) wanted) octets.now c }
 {
     if wanted {
         return skip_unlisted(c, octets, table);
     }
-    Skipped::Count(0, c)
+    Ok((0, c))
 }
 
 // One slot that holds a generic element.
-fn read_generic_slot(c: Cursor, octets: &[u8], row: Row) -> GenericRead
-    ensures { result ≡ generic_answer (at (generic_slot row) octets.now c) }
+fn read_generic_slot(c: Cursor, octets: &[u8], row: Row) -> Read<Generic>
+    ensures { as_read result ≡ at (generic_slot row) octets.now c }
 {
-    let l = peek_type34_mbit_and_id(c, octets);
-    let OptionalU8Read::Read(id, c1) = l else {
-        return GenericRead {
-            verdict: Moved::Refused(l.refusal()),
-            element: ABSENT,
+    let (id, c1) = peek_type34_mbit_and_id(c, octets)?;
+    if id == Some(row.identifier) {
+        return match row.kind {
+            Kind::Type4 => parse_type4_generic(c1, octets),
+            _ => parse_type3_generic(c1, octets),
         };
-    };
-    if id.present {
-        if id.value == row.identifier {
-            if row.kind == TYPE4 {
-                return parse_type4_generic(c1, octets);
-            }
-            return parse_type3_generic(c1, octets);
-        }
     }
-    GenericRead {
-        verdict: Moved::To(c),
-        element: ABSENT,
-    }
+    Ok((ABSENT, c))
+}
+
+// A verdict and a value in one struct, where arrays occur: behind a refusal the value is the absent one.
+#[derive(Clone, Copy)]
+pub struct Judged<T> {
+    pub verdict: Moved,
+    pub value: T,
 }
 
 // What the generic slots of a table hold, and how many unlisted elements were skipped before them.
@@ -620,42 +362,23 @@ pub struct Slots {
     pub generics: [Generic; 8],
 }
 
-#[derive(Clone, Copy)]
-pub struct ScanRead {
-    pub verdict: Moved,
-    pub slots: Slots,
-}
-
 const NO_SLOTS: Slots = Slots {
     skipped: 0,
     generics: [ABSENT; 8],
 };
 
 // The end of a table: unlisted elements where they are skipped, and the closing M-bit.
-fn read_table_end(c: Cursor, octets: &[u8], table: Table, wanted: bool) -> Skipped
-    ensures { as_skipped result ≡ at (table_end (rows_of table) wanted) octets.now c }
+fn read_table_end(c: Cursor, octets: &[u8], table: &[Row], wanted: bool) -> Skipped
+    ensures { as_read result ≡ at (table_end (rows_of table.now) wanted) octets.now c }
 {
-    if wanted {
-        let s = skip_unlisted(c, octets, table);
-        let Skipped::Count(n, c1) = s else {
-            return s;
-        };
-        let m = read_closing_mbit(c1, octets);
-        let Moved::To(c2) = m else {
-            return Skipped::Refused(m.refusal());
-        };
-        return Skipped::Count(n, c2);
-    }
-    let m = read_closing_mbit(c, octets);
-    let Moved::To(c1) = m else {
-        return Skipped::Refused(m.refusal());
-    };
-    Skipped::Count(0, c1)
+    let (n, c1) = skip_if(c, octets, table, wanted)?;
+    let c2 = read_closing_mbit(c1, octets)?;
+    Ok((n, c2))
 }
 
 // What is passed behind a part of a table: unlisted elements where they are skipped, and behind the last part the closing M-bit.
-fn read_behind(c: Cursor, octets: &[u8], table: Table, last: bool, wanted: bool) -> Skipped
-    ensures { as_skipped result ≡ at (behind_part last (rows_of table) wanted) octets.now c }
+fn read_behind(c: Cursor, octets: &[u8], table: &[Row], last: bool, wanted: bool) -> Skipped
+    ensures { as_read result ≡ at (behind_part last (rows_of table.now) wanted) octets.now c }
 {
     if last {
         return read_table_end(c, octets, table, wanted);
@@ -663,103 +386,115 @@ fn read_behind(c: Cursor, octets: &[u8], table: Table, last: bool, wanted: bool)
     skip_if(c, octets, table, wanted)
 }
 
-// A part of a table, slot by slot: its slots from `from` up to `to`, which hold generic elements, and what is passed behind them.
+// A refusal, and no slots beside it.
+fn refused(e: PduParseErr) -> Judged<Slots>
+    ensures { result ≡ slots_answer (halted e) }
+{
+    Judged {
+        verdict: Err(e),
+        value: NO_SLOTS,
+    }
+}
+
+// The rows of a table from one place up to another.
+fn part_of(table: &[Row], from: usize, to: usize) -> &[Row]
+    ensures { result.now ≡ slots_from table.now from to }
+{
+    let end = to.min(8).min(table.len());
+    &table[from.min(end)..end]
+}
+
+// `n` elements skipped before, and `m` more: each has a bit at least before the place.
+fn count_on(n: usize, m: usize, place: Cursor) -> usize
+    requires { n + m ≤ place.at }
+    ensures { result ≡ n + m }
+{
+    n + m
+}
+
+// A part of a table, slot by slot: its slots, which hold generic elements and of which the first is the table's `from`, and what is
+// passed behind them.
 fn scan_slots(
     c: Cursor,
     octets: &[u8],
-    table: Table,
+    table: &[Row],
+    slots: &[Row],
     from: usize,
-    to: usize,
     last: bool,
     wanted: bool,
-) -> ScanRead
-    ensures { result ≡ slots_answer (at (part (rows_of table) (slots_from table from to) last wanted from) octets.now c) }
+) -> Judged<Slots>
+    requires { (length slots.now ≤ 8 - from) }
+    ensures { result ≡ slots_answer (at (part (rows_of table.now) slots.now last wanted from) octets.now c) }
 {
     let mut generics = NO_GENERICS;
     let mut place = c;
     let mut n: usize = 0;
-    let mut i = from;
-    let end = at_most_8(to);
-    while i < end {
+    for (i, row) in slots.iter().enumerate() {
         let s = skip_if(place, octets, table, wanted);
-        let Skipped::Count(m, c1) = s else {
-            return ScanRead {
-                verdict: Moved::Refused(s.refusal()),
-                slots: NO_SLOTS,
-            };
+        let Ok((m, c1)) = s else {
+            return refused(s.unwrap_err());
         };
-        let row = table.rows[i];
-        let g = read_generic_slot(c1, octets, row);
-        let v = g.verdict;
-        let Moved::To(c2) = v else {
-            return ScanRead {
-                verdict: v,
-                slots: NO_SLOTS,
-            };
+        let g = read_generic_slot(c1, octets, *row);
+        let Ok((element, c2)) = g else {
+            return refused(g.unwrap_err());
         };
-        let e = g.element;
-        generics[i] = e;
-        n += m;
+        generics[from + i] = element;
+        n = count_on(n, m, c1);
         place = c2;
-        i += 1;
     }
     let b = read_behind(place, octets, table, last, wanted);
-    let Skipped::Count(k, c3) = b else {
-        return ScanRead {
-            verdict: Moved::Refused(b.refusal()),
-            slots: NO_SLOTS,
-        };
+    let Ok((k, c3)) = b else {
+        return refused(b.unwrap_err());
     };
-    ScanRead {
-        verdict: Moved::To(c3),
-        slots: Slots {
-            skipped: n + k,
-            generics: generics,
+    Judged {
+        verdict: Ok(c3),
+        value: Slots {
+            skipped: count_on(n, k, c3),
+            generics,
         },
     }
 }
 
-// Whether an element stands here that is listed, but not in the rows from `from` up to `to`.
-fn is_elsewhere(c: Cursor, octets: &[u8], table: Table, from: usize, to: usize) -> bool
-    ensures { result ≡ elsewhere (rows_of table) (slots_from table from to) (look (window octets.now c)) }
+// Whether an element stands here that is listed, but not in a part of the table.
+fn is_elsewhere(c: Cursor, octets: &[u8], table: &[Row], slots: &[Row]) -> bool
+    ensures { result ≡ elsewhere (rows_of table.now) slots.now (look (window octets.now c)) }
 {
-    let l = peek_type34_mbit_and_id(c, octets);
-    let OptionalU8Read::Read(id, _) = l else {
+    let Ok((id, _)) = peek_type34_mbit_and_id(c, octets) else {
         return false;
     };
-    if id.present {
-        return is_listed(table, id.value) & !has_row(table, from, to, id.value);
+    match id {
+        Some(identifier) => is_listed(table, identifier) & !is_listed(slots, identifier),
+        None => false,
     }
-    false
 }
 
 // The same part. Where the table ends, or an element of another part stands, it holds nothing and no slot is looked at.
 pub fn scan_part(
     c: Cursor,
     octets: &[u8],
-    table: Table,
+    table: &[Row],
     from: usize,
     to: usize,
     last: bool,
     wanted: bool,
-) -> ScanRead
-    ensures { result ≡ slots_answer (at (part (rows_of table) (slots_from table from to) last wanted from) octets.now c) }
+) -> Judged<Slots>
+    ensures { result ≡ slots_answer (at (part (rows_of table.now) (slots_from table.now from to) last wanted from) octets.now c) }
 {
+    let slots = part_of(table, from, to);
     if last {
-        let m = read_closing_mbit(c, octets);
-        if let Moved::To(c1) = m {
-            return ScanRead {
-                verdict: Moved::To(c1),
-                slots: NO_SLOTS,
+        if let Ok(c1) = read_closing_mbit(c, octets) {
+            return Judged {
+                verdict: Ok(c1),
+                value: NO_SLOTS,
             };
         }
     } else {
-        if is_elsewhere(c, octets, table, from, to) {
-            return ScanRead {
-                verdict: Moved::To(c),
-                slots: NO_SLOTS,
+        if is_elsewhere(c, octets, table, slots) {
+            return Judged {
+                verdict: Ok(c),
+                value: NO_SLOTS,
             };
         }
     }
-    scan_slots(c, octets, table, from, to, last, wanted)
+    scan_slots(c, octets, table, slots, from, last, wanted)
 }

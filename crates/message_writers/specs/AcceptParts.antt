@@ -1,5 +1,5 @@
 -- The parts that a D-LOCATION UPDATE ACCEPT is written in: up to the O-bit; the type 2 elements in two fields; the listed elements.
-use Rattle.std.specs.Prelude.{ℕ, ◌+◌, ◌≤◌, ◌≡◌, refl, Bool, true, false, cond, not, ◌&&◌, ◌||◌, length, eqb}
+use Rattle.std.specs.Prelude.{ℕ, ◌+◌, ◌≤◌, ◌≡◌, refl, Bool, true, false, cond, not, ◌&&◌, ◌||◌, length, eqb, option_map}
 use native.Mathlib.Omega.{arith}
 use Rattle.std.proofs.Math.Path.{sym, ap}
 use Rattle.std.proofs.Common.{◌∙◌}
@@ -10,7 +10,7 @@ use borrow.Author.Tests.{not-true}
 use Rattle.bits.specs.Bits.{Bits, bit, digits}
 use Rattle.bits.specs.BitsLaws.{length_digits}
 use Rattle.bits.specs.Written.{joined}
-use Rattle.elements.specs.Numbers.{held, option_all, option_map, in_width, in_u64, flag_width, type2_bits}
+use Rattle.elements.specs.Numbers.{held, option_all, in_width, in_u64, flag_width, type2_bits}
 use Rattle.elements.proofs.NumbersLaws.{both, one_bit}
 use Rattle.elements.specs.EnergySaving.{saving_bits}
 use Rattle.elements.specs.Generics.{type4_fits}

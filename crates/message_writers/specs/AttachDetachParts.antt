@@ -1,5 +1,5 @@
 -- The parts that a D-ATTACH/DETACH GROUP IDENTITY is written in: up to the O-bit, and the listed elements.
-use Rattle.std.specs.Prelude.{ℕ, ◌+◌, ◌≤◌, ◌≡◌, refl, Bool, true, false, cond, not, ◌||◌}
+use Rattle.std.specs.Prelude.{ℕ, ◌+◌, ◌≤◌, ◌≡◌, refl, Bool, true, false, cond, not, ◌||◌, option_map}
 use native.Mathlib.Omega.{arith}
 use Rattle.std.proofs.Math.Path.{ap, ap₂}
 use Rattle.std.proofs.Common.{◌∙◌}
@@ -15,7 +15,7 @@ use Rattle.bits.specs.WrittenLaws.{Octets}
 use Rattle.bits.specs.PutsLaws.{Puts, ◌⨾◌, joined-append}
 use Rattle.elements.proofs.NumbersLaws.{neither}
 use Rattle.elements.specs.Table.{mbit_width}
-use Rattle.elements.specs.Numbers.{option_all, flag_width, option_map}
+use Rattle.elements.specs.Numbers.{option_all, flag_width}
 use Rattle.elements.specs.Generics.{type3_fits}
 use Rattle.elements.specs.Lists.{downlinks, list_bits, list_held}
 use Rattle.elements.specs.Locations.{group_identity_downlink_identifier}

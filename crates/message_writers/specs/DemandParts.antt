@@ -1,5 +1,5 @@
 -- The parts that a U-LOCATION UPDATE DEMAND is written in: up to the O-bit; the type 2 elements in two fields; the listed elements.
-use Rattle.std.specs.Prelude.{ℕ, ◌+◌, ◌*◌, ◌/◌, ◌^◌, ◌≤◌, ◌≡◌, refl, Bool, true, false, cond, ◌&&◌, ◌||◌, length, eqb}
+use Rattle.std.specs.Prelude.{ℕ, ◌+◌, ◌*◌, ◌/◌, ◌^◌, ◌≤◌, ◌≡◌, refl, Bool, true, false, cond, ◌&&◌, ◌||◌, length, eqb, option_map}
 use native.Mathlib.Omega.{arith}
 use Rattle.std.proofs.Math.Path.{sym, ap}
 use Rattle.std.proofs.Common.{ap₂, ◌∙◌}
@@ -10,7 +10,7 @@ use Rattle.std.proofs.Math.ListN.{length-append}
 use Rattle.bits.specs.Bits.{Bits, bit, digits}
 use Rattle.bits.specs.BitsLaws.{length_digits, digits_append, digits-add}
 use Rattle.bits.specs.Written.{joined}
-use Rattle.elements.specs.Numbers.{held, option_bits, option_all, option_map, in_width, in_u8, in_u64, flag_width, type2_bits}
+use Rattle.elements.specs.Numbers.{held, option_bits, option_all, in_width, in_u8, in_u64, flag_width, type2_bits}
 use Rattle.elements.proofs.NumbersLaws.{both, one_bit, neither}
 use Rattle.elements.specs.ClassOfMs.{class_bits, class_fits}
 use Rattle.elements.specs.EnergySaving.{saving_mode_width}

@@ -1,7 +1,7 @@
 -- Laws of a message that is written: the questions by the answers that the code gives, and the bits in parts.
 use Prim.Native.Nat.{ℕ, zero, suc, ◌+◌}
 use Rattle.std.proofs.Common.{arith, sym, ap, ◌∙◌, length-append, le-leb, ne_eqb}
-use Rattle.std.specs.Prelude.{◌≡◌, Bool, true, false, cond, ◌&&◌, List, [], ◌∷◌, ◌++◌, length}
+use Rattle.std.specs.Prelude.{◌≡◌, Bool, true, false, cond, ◌&&◌, List, [], ◌∷◌, ◌++◌, length, is_some, option_map}
 use Rattle.std.proofs.Math.Path.{refl}
 use Rattle.std.proofs.Math.Bool.{and_assoc}
 use Rattle.bits.specs.Bits.{Bits, bit}
@@ -12,7 +12,7 @@ use Rattle.bits.specs.WrittenLaws.{Octets}
 use Rattle.bits.specs.PutsLaws.{Puts, all-put}
 use Rattle.bits.specs.declared.bitbuffer.Cursor.{Cursor}
 use Rattle.bits.specs.declared.bitbuffer.Place.{Place}
-use Rattle.elements.specs.Numbers.{is_present, held, option_bits, option_map}
+use Rattle.elements.specs.Numbers.{held, option_bits}
 use Rattle.elements.specs.Generics.{type3_bits}
 use Rattle.elements.specs.TableWritten.{element_bits, slot_bits}
 use Rattle.elements.specs.Kinds.{Kind, Element, row, generic_type3, generic_type4, is_type3, identifier_of, content_bits, content_bits_of, type3_held, type3_slot, type4_slot}
@@ -106,7 +106,7 @@ type3_slot_lem i o = kind-slot i generic_type3 is_type3 type3_bits (λ a. refl) 
 pub type4_slot_lem : (i : ℕ) (o : OptionalType4) → o.present ≡ false → slot_bits identifier_of content_bits (row i generic_type4) (type4_slot o) ≡ []
 type4_slot_lem i o e = rw e
 
-pub slot-present : {A B : Type 0} (f : A → B) (p : Bool) (a : A) → is_present (option_map f (held p a)) ≡ p
+pub slot-present : {A B : Type 0} (f : A → B) (p : Bool) (a : A) → is_some (option_map f (held p a)) ≡ p
 slot-present f true a = refl
 slot-present f false a = refl
 

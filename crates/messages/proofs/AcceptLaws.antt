@@ -1,14 +1,14 @@
 -- Laws of D-LOCATION UPDATE ACCEPT.
 use Rattle.std.proofs.Common.{arith, ap}
-use Rattle.std.specs.Prelude.{◌≡◌, true, false, cond, ◌&&◌, eqb}
+use Rattle.std.specs.Prelude.{◌≡◌, true, false, cond, ◌&&◌, eqb, is_some, option_map}
 use Rattle.std.proofs.Math.Path.{refl}
 use Rattle.std.proofs.Math.Bool.{Bool}
-use Rattle.std.proofs.Math.Option.{Option, none, some}
+use Rattle.std.specs.Prelude.{Option, None, Some}
 use mathlib.Core.List.{List, [], ◌∷◌, ◌++◌, append_assoc}
 use Rattle.bits.specs.Bits.{Bits, bit, digits}
 use Rattle.bits.specs.Reader.{got, field, optional, Local}
 use Rattle.bits.specs.ReaderLaws.{split-then, local·rules, follows·rules, Follows, field-passes}
-use Rattle.elements.specs.Numbers.{held, is_present, value_or, option_all, option_map, in_u64, flag_width, type2, announced}
+use Rattle.elements.specs.Numbers.{held, value_or, option_all, in_u64, flag_width, type2, announced}
 use Rattle.elements.proofs.NumbersLaws.{both, number-back, one_bit, type2-back, type2-number-back, held-option, same-held, same_map, same_self, same-normal, same_u64, same_u64_self}
 use Rattle.elements.specs.EnergySaving.{energy_saving, saving_bits, saving_fits, alive_has_none, others_have_both, saving_normal, no_saving, saving_option}
 use Rattle.elements.proofs.EnergySavingLaws.{saving-local, saving-passes, saving-back, saving-same, saving_normal-same, saving-own}
@@ -72,8 +72,8 @@ saving_well_lem r x = go (saving_in r) (x 4)
   where
     go : (o : Option EnergySavingInformation) → option_all saving_fits o ≡ true → option_all alive_has_none o ≡ true → option_all others_have_both o ≡ true
         → option_all saving_well o ≡ true
-    go none f a s = refl
-    go (some e) f a s = rw (f, a, s)
+    go None f a s = refl
+    go (Some e) f a s = rw (f, a, s)
 
 well_back : (e : EnergySavingInformation) → saving_well e ≡ true → (rest : Bits) → energy_saving (saving_bits e ++ rest) ≡ got (saving_normal e) rest
 well_back e h =
@@ -208,12 +208,12 @@ options_normal t =
     (in_u64 t.scch_information_and_distribution_on_18th_frame)
 
 type2-saving-own : (bs : Bits) {o : Option EnergySavingInformation} {rest : Bits} → type2 energy_saving bs ≡ got o rest
-    → option_map saving_normal (held (is_present o) (value_or no_saving o)) ≡ o
+    → option_map saving_normal (held (is_some o) (value_or no_saving o)) ≡ o
 type2-saving-own bs {o} {rest} h = split-then (field flag_width bs) _ h (λ p mid q k. go (eqb p 1) mid k)
   where
-    go : (b : Bool) (mid : Bits) → optional some none b energy_saving mid ≡ got o rest → option_map saving_normal (held (is_present o) (value_or no_saving o)) ≡ o
-    go true mid k = split-then (energy_saving mid) _ k (λ e r p q. let made : some e ≡ o = cc in rw (← made) (ap some (saving-own mid p)))
-    go false mid k = let made : none ≡ o = cc in rw (← made)
+    go : (b : Bool) (mid : Bits) → optional Some None b energy_saving mid ≡ got o rest → option_map saving_normal (held (is_some o) (value_or no_saving o)) ≡ o
+    go true mid k = split-then (energy_saving mid) _ k (λ e r p q. let made : Some e ≡ o = cc in rw (← made) (ap Some (saving-own mid p)))
+    go false mid k = let made : None ≡ o = cc in rw (← made)
 
 options-own : (b : Bool) (bs : Bits) {t : AcceptOptions} {rest : Bits} → accept_options_if b bs ≡ got t rest → options_normal t ≡ t
 unfolding accept_options

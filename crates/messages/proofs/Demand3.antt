@@ -3,7 +3,7 @@ use Rattle.std.specs.Prelude.{ℕ, ◌+◌, ◌-◌, ◌<◌, ◌≡◌, ◌↔�
 use Rattle.std.proofs.Common.{arith, sym, ap, ◌∙◌, subst, length-append}
 use Rattle.std.proofs.Math.Path.{refl}
 use Rattle.std.proofs.Math.Bool.{true, false}
-use Rattle.std.proofs.Math.Option.{none}
+use Rattle.std.specs.Prelude.{None}
 use mathlib.Core.List.{List, [], ◌∷◌, ◌++◌, map}
 use Rattle.bits.specs.Bits.{Bits}
 use Rattle.bits.specs.Reader.{Answer, got, refused, Reader, then, Local, Tail}
@@ -141,7 +141,7 @@ module _ {S A R : Type 0} (identifier : S → ℕ) (content : S → ℕ → Read
       where
         go : (x : Answer f.Head) → f.head bs ≡ x
             → Alike 0 (then x (λ h. body identifier content f true h (f.more h))) (then x (λ h. body identifier content f false h (f.more h)))
-        go (got h r) p = rw (head_at bs e p).0 (give (f.finish h (map (λ s. none) f.table)) r refl refl)
+        go (got h r) p = rw (head_at bs e p).0 (give (f.finish h (map (λ s. None) f.table)) r refl refl)
         go (refused n) p = refuse n n refl refl
 
     -- O-bit 1: the head u is read alike before the elements and before what the cut leaves of them
@@ -172,12 +172,12 @@ module _ {S A R : Type 0} (identifier : S → ℕ) (content : S → ℕ → Read
         rw (used_of_lem u mid v.split) (inside-by bs (unlisted listed ps) (u ++ c)
         (subst (λ (b : Bits). Alike (length (unlisted listed ps)) (skipping b) (strict (u ++ c))) (sym v.split) (alike-table u v.any ps mid w))
         (omega (arith, ap length v.split, length-append u mid, length-append u c, cut-length listed ps mid w))
-        (λ some. refuses-by (strict bs) (λ x r p.
+        (λ Some. refuses-by (strict bs) (λ x r p.
         let k = walks_at false bs e p in
         let same : k.met ≡ ps = cc k.walked in
-        let none : length (unlisted listed k.met) ≡ 0 = k.count ∙ strict-counts bs p in
-        omega (arith, rw same at none)))
-        (λ none. rw (cut_none listed ps mid w none) (sym v.split)))
+        let None : length (unlisted listed k.met) ≡ 0 = k.count ∙ strict-counts bs p in
+        omega (arith, rw same at None)))
+        (λ None. rw (cut_none listed ps mid w None) (sym v.split)))
 
     abbrev Ends : Bits → Walked → Type 0
     Ends bs leaves = Refuses (skipping bs) × Refuses (strict bs)

@@ -1,15 +1,15 @@
 -- Laws of U-LOCATION UPDATE DEMAND.
-use Rattle.std.specs.Prelude.{ℕ, ◌*◌, ◌^◌, ◌<◌, ◌≡◌, true, false, cond, eqb}
+use Rattle.std.specs.Prelude.{ℕ, ◌*◌, ◌^◌, ◌<◌, ◌≡◌, true, false, cond, eqb, is_some, option_map}
 use Rattle.std.proofs.Common.{arith, ap, ltb-true}
 use Rattle.std.proofs.Math.Path.{refl}
 use Rattle.std.proofs.Math.Bool.{Bool}
 use Rattle.std.specs.Bool.{beq}
-use Rattle.std.proofs.Math.Option.{Option, none, some}
+use Rattle.std.specs.Prelude.{Option, None, Some}
 use mathlib.Core.List.{List, [], ◌∷◌, ◌++◌, append_assoc}
 use Rattle.bits.specs.Bits.{Bits, bit, digits}
 use Rattle.bits.specs.Reader.{got, field, Local}
 use Rattle.bits.specs.ReaderLaws.{split-then, local·rules, follows·rules, Follows, field-passes, field_back}
-use Rattle.elements.specs.Numbers.{held, is_present, optional_number, option_map, option_bits, in_width, in_u8, u64_of, in_u64, flag_width, type2, announced}
+use Rattle.elements.specs.Numbers.{held, optional_number, option_bits, in_width, in_u8, u64_of, in_u64, flag_width, type2, announced}
 use Rattle.elements.proofs.NumbersLaws.{never, number-back, one_bit, type2-back, type2-same-back, type2-number-back, optional_number-back, held-option, same-held, same_map, same_self, same-normal, same_u8, same_u8_self, same_u64, same_u64_self}
 use Rattle.elements.specs.ClassOfMs.{class_of_ms_element, class_bits, class_fits, no_class, class_option}
 use Rattle.elements.proofs.ClassOfMsLaws.{class-local, class-passes, class_back}
@@ -64,13 +64,13 @@ unfolding demand_asked
 demand-fits r = each_of (demand_parts r)
 
 -- QUESTION 9: the ciphering parameters are there where cipher control says
-there : (b p : Bool) (v : ℕ) → beq p b ≡ true → b ≡ is_present (held p v)
+there : (b p : Bool) (v : ℕ) → beq p b ≡ true → b ≡ is_some (held p v)
 there true true v e = refl
 there true false v e = never e
 there false true v e = never e
 there false false v e = refl
 
-ciphered : (r : ULocationUpdateDemand) → (demand_asked r).ciphered ≡ true → eqb r.cipher_control 1 ≡ is_present (in_u64 r.ciphering_parameters)
+ciphered : (r : ULocationUpdateDemand) → (demand_asked r).ciphered ≡ true → eqb r.cipher_control 1 ≡ is_some (in_u64 r.ciphering_parameters)
 unfolding demand_asked
 ciphered r = there (eqb r.cipher_control 1) r.ciphering_parameters.present r.ciphering_parameters.value
 
@@ -85,8 +85,8 @@ la-back : (la : ℕ) → in_width la_value_width la ≡ true → (rest : Bits) �
 la-back la h rest = let l : la < 2 ^ la_value_width = ltb-true _ _ h in field_back la_width (2 * la) rest (omega arith)
 
 la-halved : (o : Option ℕ) → option_map halved (option_map (λ la. 2 * la) o) ≡ o
-la-halved none = refl
-la-halved (some la) = ap some (omega arith)
+la-halved None = refl
+la-halved (Some la) = ap Some (omega arith)
 
 module _ (r : ULocationUpdateDemand) where
   options-append : (xs rest : Bits) → demand_options_bits r xs ++ rest ≡ demand_options_bits r (xs ++ rest)

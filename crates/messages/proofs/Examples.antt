@@ -1,7 +1,7 @@
 -- The messages to try that document 01 marks to be proved, and a row for each subtle refusal of writing: one table, and one theorem about
 -- its rows, by computation.
 use Rattle.std.specs.Prelude.{ℕ, ◌≡◌, refl, true, false, List, [], ◌∷◌}
-use Rattle.std.proofs.Math.Option.{Option, none, some}
+use Rattle.std.specs.Prelude.{Option, None, Some}
 use Rattle.bits.specs.Bits.{number, digits, bits_of}
 use Rattle.bits.specs.Reader.{Answer, got, refused, field, pass, times}
 use Rattle.bits.specs.Placed.{window}
@@ -73,18 +73,18 @@ refusing n = record { verdict = Refused n; written = 0 }
 
 -- update type 3, a cipher control, ciphering parameters, and an SSI
 abbrev head_with : ℕ → Option ℕ → Option ℕ → DemandHead
-head_with control parameters ssi = demand_head_of 3 0 control parameters 0 (demand_options_of none none none ssi none)
+head_with control parameters ssi = demand_head_of 3 0 control parameters 0 (demand_options_of None None None ssi None)
 
 abbrev demand_with : ℕ → Option ℕ → Option ℕ → ULocationUpdateDemand
 demand_with control parameters ssi = demand_of (head_with control parameters ssi) []
 
 -- update type 3 and nothing else
 abbrev plain : Record
-plain = of_demand (demand_with 0 none none)
+plain = of_demand (demand_with 0 None None)
 
 -- the same with a group report response of length 2, 11 in binary
 abbrev with_response : Record
-with_response = of_demand (demand_of (head_with 0 none none) (none ∷ some (is_type3 (record { len = 2; «data» = 3 })) ∷ []))
+with_response = of_demand (demand_of (head_with 0 None None) (None ∷ Some (is_type3 (record { len = 2; «data» = 3 })) ∷ []))
 
 abbrev version7 : ClassOfMs
 version7 = class_of (0 ∷ 0 ∷ 0 ∷ 0 ∷ 0 ∷ 0 ∷ 0 ∷ 0 ∷ 0 ∷ 0 ∷ 0 ∷ 0 ∷ 0 ∷ 0 ∷ 0 ∷ 0 ∷ 7 ∷ 0 ∷ 0 ∷ 0 ∷ 0 ∷ 0 ∷ [])
@@ -117,7 +117,7 @@ rows =
     ∷ reads 2 0 (38 ∷ 0 ∷ []) 0 9 (no_reading 2 0)
     ∷ reads 2 1 (38 ∷ 0 ∷ []) 0 10 (accepted 10 0 plain)
     -- 26 44 00 00 04: the same with SSI 1
-    ∷ reads 2 0 (38 ∷ 68 ∷ 0 ∷ 0 ∷ 4 ∷ []) 0 40 (accepted 40 0 (of_demand (demand_with 0 none (some 1))))
+    ∷ reads 2 0 (38 ∷ 68 ∷ 0 ∷ 0 ∷ 4 ∷ []) 0 40 (accepted 40 0 (of_demand (demand_with 0 None (Some 1))))
     -- 26 40 reads as 26 00, and is written back in 10 bits
     ∷ reads 2 0 (38 ∷ 64 ∷ []) 0 16 (accepted 16 0 plain)
     ∷ writes 2 (255 ∷ 255 ∷ []) 0 16 plain (took 10) (38 ∷ 63 ∷ [])
@@ -144,9 +144,9 @@ rows =
     -- class word 0000E0: version 7 only
     ∷ class_word (0 ∷ 0 ∷ 224 ∷ []) (got version7 [])
     -- type 4 length 6 with count 0: an empty list, and not an absent one; length 5
-    ∷ uplink_list 6 (0 ∷ []) (got (list_of uplinks (some [])) (false ∷ false ∷ []))
+    ∷ uplink_list 6 (0 ∷ []) (got (list_of uplinks (Some [])) (false ∷ false ∷ []))
     ∷ uplink_list 5 (0 ∷ []) (refused 5)
-    ∷ downlink_list 6 (0 ∷ []) (got (list_of downlinks (some [])) (false ∷ false ∷ []))
+    ∷ downlink_list 6 (0 ∷ []) (got (list_of downlinks (Some [])) (false ∷ false ∷ []))
     ∷ downlink_list 5 (0 ∷ []) (refused 5)
     -- worked by hand: a location demand of length 3 whose reserved bit is 1
     ∷ reads 2 0 (38 ∷ 65 ∷ 48 ∷ 7 ∷ 0 ∷ []) 0 35 (no_reading 4 0)
@@ -171,9 +171,9 @@ rows =
     ∷ writes 10 (255 ∷ 255 ∷ []) 0 16 (with_type4 3 64 0) (refusing 8) (255 ∷ 255 ∷ [])
     ∷ writes 10 (255 ∷ 255 ∷ []) 0 16 (with_type4 3 1 0) (refusing 14) (255 ∷ 255 ∷ [])
     -- ciphering parameters too large where there should be none: 8 and not 9; and where they fit: 9
-    ∷ writes 2 (255 ∷ 255 ∷ []) 0 16 (of_demand (demand_with 0 (some 1024) none)) (refusing 8) (255 ∷ 255 ∷ [])
-    ∷ writes 2 (255 ∷ 255 ∷ []) 0 16 (of_demand (demand_with 0 (some 1023) none)) (refusing 9) (255 ∷ 255 ∷ [])
-    ∷ writes 2 (255 ∷ 255 ∷ []) 0 16 (of_demand (demand_with 1 none none)) (refusing 9) (255 ∷ 255 ∷ [])
+    ∷ writes 2 (255 ∷ 255 ∷ []) 0 16 (of_demand (demand_with 0 (Some 1024) None)) (refusing 8) (255 ∷ 255 ∷ [])
+    ∷ writes 2 (255 ∷ 255 ∷ []) 0 16 (of_demand (demand_with 0 (Some 1023) None)) (refusing 9) (255 ∷ 255 ∷ [])
+    ∷ writes 2 (255 ∷ 255 ∷ []) 0 16 (of_demand (demand_with 1 None None)) (refusing 9) (255 ∷ 255 ∷ [])
     -- an absent list's count is not looked at
     ∷ writes 10 (0 ∷ 255 ∷ []) 0 16 absent_hundred (took 8) (166 ∷ 255 ∷ [])
     -- a window exactly long enough at bit 3, and one bit short

@@ -3,7 +3,7 @@ use Rattle.std.specs.Prelude.{ℕ, ◌≡◌, Bool, cond}
 use Rattle.std.proofs.Math.Path.{refl, ap}
 use Rattle.std.proofs.Common.{sym}
 use Rattle.std.proofs.Math.Bool.{true, false}
-use Rattle.std.proofs.Math.Option.{Option, none, some}
+use Rattle.std.specs.Prelude.{Option, None, Some}
 use mathlib.Core.List.{List, [], ◌∷◌, ◌++◌, map}
 use Rattle.bits.specs.Bits.{Bits}
 use Rattle.bits.specs.Reader.{got, Reader}
@@ -19,7 +19,7 @@ use Rattle.messages.specs.Format.{Format, body, message}
 pub message-made : {S A R : Type 0} (identifier : S → ℕ) (content : S → ℕ → Reader A) (f : Format S A R) (P : Counted R → Type 0) (b : Bool) (bs : Bits)
     → ((h : f.Head) (mid : Bits) → f.head bs ≡ got h mid → f.more h ≡ true → (y : Counted (List (Option A))) (rest : Bits)
     → scan_table identifier content b f.table mid ≡ got y rest → P (counted y.skipped (f.finish h y.value)))
-    → ((h : f.Head) (mid : Bits) → f.head bs ≡ got h mid → f.more h ≡ false → P (counted 0 (f.finish h (map (λ s. none) f.table))))
+    → ((h : f.Head) (mid : Bits) → f.head bs ≡ got h mid → f.more h ≡ false → P (counted 0 (f.finish h (map (λ s. None) f.table))))
     → {x : Counted R} {rest : Bits} → message identifier content f b bs ≡ got x rest → P x
 unfolding message
 message-made identifier content f P b bs table none_there {x} {rest} e = split-then (f.head bs) _ e (λ h mid p q. go h mid p (f.more h) refl q)
@@ -28,21 +28,21 @@ message-made identifier content f P b bs table none_there {x} {rest} e = split-t
     go h mid p true o q = split-then (scan_table identifier content b f.table mid) _ q (λ y r p' q'.
         let g : counted y.skipped (f.finish h y.value) ≡ x = cc in
         rw (← g) (table h mid p o y r p'))
-    go h mid p false o q = let g : counted 0 (f.finish h (map (λ s. none) f.table)) ≡ x = cc in rw (← g) (none_there h mid p o)
+    go h mid p false o q = let g : counted 0 (f.finish h (map (λ s. None) f.table)) ≡ x = cc in rw (← g) (none_there h mid p o)
 
 module _ {S A : Type 0} (identifier : S → ℕ) (content : S → ℕ → Reader A) (content_bits : S → A → Bits) (normal : S → A → A) where
   -- slots of which none is present
-  absent_slots : (ss : List S) (vs : List (Option A)) → any_present vs ≡ false → map (λ s. none) ss ≡ normal_slots normal ss vs
+  absent_slots : (ss : List S) (vs : List (Option A)) → any_present vs ≡ false → map (λ s. None) ss ≡ normal_slots normal ss vs
   unfolding any_present normal_slots
   absent_slots [] vs e = refl
-  absent_slots (s ∷ ss) [] e = ap (λ vs. none ∷ vs) (absent_slots ss [] e)
-  absent_slots (s ∷ ss) (none ∷ vs) e = ap (λ vs. none ∷ vs) (absent_slots ss vs e)
-  absent_slots (s ∷ ss) (some a ∷ vs) e = never (sym e)
+  absent_slots (s ∷ ss) [] e = ap (λ vs. None ∷ vs) (absent_slots ss [] e)
+  absent_slots (s ∷ ss) (None ∷ vs) e = ap (λ vs. None ∷ vs) (absent_slots ss vs e)
+  absent_slots (s ∷ ss) (Some a ∷ vs) e = never (sym e)
 
-  absent-own : (ss : List S) → normal_slots normal ss (map (λ s. none) ss) ≡ map (λ s. none) ss
+  absent-own : (ss : List S) → normal_slots normal ss (map (λ s. None) ss) ≡ map (λ s. None) ss
   unfolding normal_slots
   absent-own [] = refl
-  absent-own (s ∷ ss) = ap (λ vs. none ∷ vs) (absent-own ss)
+  absent-own (s ∷ ss) = ap (λ vs. None ∷ vs) (absent-own ss)
 
   module _ {R : Type 0} (f : Format S A R) where
     -- a message whose head is read back is read back, with or without its slots behind the O-bit

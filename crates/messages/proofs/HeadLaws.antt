@@ -1,7 +1,7 @@
 -- Laws of the heads' parts: local, passed by the layout, read back.
 use Rattle.std.specs.Prelude.{ℕ, ◌≡◌, refl, Bool, true, false, cond, ◌||◌, List, [], ◌∷◌, ◌++◌, eqb}
 use Rattle.std.proofs.Common.{sym, ap, append_assoc, eq-eqb}
-use Rattle.std.proofs.Math.Option.{Option, none, some}
+use Rattle.std.specs.Prelude.{Option, None, Some}
 use Rattle.bits.specs.PduParseError.{invalid_pdu_type}
 use Rattle.bits.specs.Bits.{Bits, bit, digits}
 use Rattle.bits.specs.BitsLaws.{bit_lt}
@@ -48,7 +48,7 @@ pub type2_follows : {A B : Type 0} (w : ℕ) (ws : List ℕ) (r : Reader A) (f :
     → ((o : Option A) → Follows (f o) (pass_type2 ws) k) → Follows (type2 r >>= f) (pass_type2 (w ∷ ws)) k
 unfolding pass_type2
 type2_follows w ws r f h hf =
-    by-pass (type2 r) _ f _ (by-same (field flag_width) _ _ (λ p. optional_follows some none (eqb p 1) r (pass w) h)) hf
+    by-pass (type2 r) _ f _ (by-same (field flag_width) _ _ (λ p. optional_follows Some None (eqb p 1) r (pass w) h)) hf
 
 -- none is left
 pub end_follows : {A : Type 0} (a : A) → Follows (λ bs. got a bs) (pass_type2 []) (λ x. tt)
@@ -94,5 +94,5 @@ none_of (b ∷ bs) e = let x = both_false b (any_of bs) e in (x.0, none_of bs x.
 -- where an O-bit is 0, none of the five type 2 elements before the slots is held
 pub none_held : {A B C D E S T : Type 0} (f : Option A → Option B → Option C → Option D → Option E → T) (vs : List (Option S)) (p q r s t : Bool)
     (a : A) (b : B) (c : C) (d : D) (e : E) → (any_of (p ∷ q ∷ r ∷ s ∷ t ∷ []) || any_present vs) ≡ false
-    → f none none none none none ≡ f (held p a) (held q b) (held r c) (held s d) (held t e)
+    → f None None None None None ≡ f (held p a) (held q b) (held r c) (held s d) (held t e)
 none_held f vs p q r s t a b c d e h = let n = none_of _ (both_false (any_of _) (any_present vs) h).0 in rw (n.0, n.1.0, n.1.1.0, n.1.1.1.0, n.1.1.1.1.0)

@@ -1,7 +1,7 @@
 -- Laws of the three messages: what demand 3 asks of them, reading back, the normal form.
 use Rattle.std.specs.Prelude.{ℕ, ◌≡◌, Bool, true, false, List, ◌++◌, length}
 use Rattle.std.proofs.Common.{ap}
-use Rattle.std.proofs.Math.Option.{Option}
+use Rattle.std.specs.Prelude.{Option}
 use Rattle.bits.specs.Bits.{Bits}
 use Rattle.bits.specs.Reader.{got, Local}
 use Rattle.bits.specs.ReaderLaws.{Passes}

@@ -1,7 +1,7 @@
 -- The parts of the messages' heads, read at a cursor.
 use Rattle.std.specs.Prelude.{ℕ, ◌≡◌, Bool, List}
 use Rattle.std.proofs.Common.{ap, eq-eqb, ne_eqb}
-use Rattle.std.proofs.Math.Option.{Option, none, some}
+use Rattle.std.specs.Prelude.{Option, None, Some}
 use Rattle.bits.specs.PduParseError.{invalid_pdu_type}
 use Rattle.bits.specs.Reader.{Reader, ◌>>=◌, field, optional, Local, Tail}
 use Rattle.bits.specs.ReaderLaws.{local·rules, local_tail, field-local, optional-local}
@@ -104,9 +104,9 @@ module _ {A B : Type 0} {f : Option A → B} (h : Holds f) where
     past-type2 w e l = let t = local_tail (type2-local q l) in past-made (type2 q) w (made_of f (type2 q) e t made) t
 
     -- past a field that is there where the test holds
-    abbrev pub past-optional : (b : Bool) → Comes K s os c (optional some none b q >>= g) k → Gives (optional (λ a. f (some a)) (f none) b q) os k (placed v n)
+    abbrev pub past-optional : (b : Bool) → Comes K s os c (optional Some None b q >>= g) k → Gives (optional (λ a. f (Some a)) (f None) b q) os k (placed v n)
         → Local q → Way s
-    past-optional b w e l = past-made (optional some none b q) w (option_of f b q e l made) (local_tail (optional-local some none b q l))
+    past-optional b w e l = past-made (optional Some None b q) w (option_of f b q e l made) (local_tail (optional-local Some None b q l))
 
 pub type2-stop : {A B C : Type 0} (f : Option A → B) (r : Reader A) (g : Option A → Reader C) {os : List ℕ} {c : Cursor} {n : ℕ}
     → Gives (type2_as f r) os c (halted n) → Gives (type2 r >>= g) os c (halted n)

@@ -1,7 +1,7 @@
 -- A message at a cursor: its head, and behind an O-bit of 1 its listed elements, which end at once where there are none.
 use Rattle.std.specs.Prelude.{ℕ, ◌≡◌, Bool, true, false, List, map}
 use Rattle.std.proofs.Common.{◌∙◌}
-use Rattle.std.proofs.Math.Option.{none}
+use Rattle.std.specs.Prelude.{None}
 use Rattle.bits.specs.Bits.{Bits}
 use Rattle.bits.specs.Reader.{got, Tail}
 use Rattle.bits.specs.Placed.{window, Placed, placed, halted}
@@ -18,7 +18,7 @@ use Rattle.messages.specs.declared.Record.{Record}
 module _ (f : Format Slot Element Record) (skipping : Bool) where
   -- no slot of an empty table holds anything
   body-empty : (h : f.Head) (m : Bool) (bs : Bits) {rest : Bits} → empty_table m bs ≡ got tt rest
-      → body identifier_of content f skipping h m bs ≡ got (counted 0 (f.finish h (map (λ s. none) f.table))) rest
+      → body identifier_of content f skipping h m bs ≡ got (counted 0 (f.finish h (map (λ s. None) f.table))) rest
   body-empty h true bs e = rw (scan-empty identifier_of content (is_listed identifier_of f.table) skipping f.table bs e)
   body-empty h false bs e = cc
 
@@ -42,5 +42,5 @@ module _ (f : Format Slot Element Record) (skipping : Bool) {os : List ℕ} {c :
         go false g = halted-placed (so g ∙ done.eq)
 
     pub none_follow : {j : Cursor} → Gives (empty_table (f.more h)) os k (placed tt j)
-        → Gives (message identifier_of content f skipping) os c (placed (counted 0 (f.finish h (map (λ s. none) f.table))) j)
+        → Gives (message identifier_of content f skipping) os c (placed (counted 0 (f.finish h (map (λ s. None) f.table))) j)
     none_follow g = let t = told (empty_tail (f.more h)) g in behind-head (gives (body-empty f skipping h (f.more h) (window os k) t.said) t.on t.used t.same_end)

@@ -1,7 +1,7 @@
 -- THE THREE MESSAGES: they are regular, what was written is read back, and what is read is in normal form.
 use Rattle.std.specs.Prelude.{◌≡◌, refl, Bool, true, false, List, ◌∷◌, ◌++◌}
 use Rattle.std.proofs.Common.{ap, ltb-true}
-use Rattle.std.proofs.Math.Option.{Option, none, some}
+use Rattle.std.specs.Prelude.{Option, None, Some}
 use Rattle.bits.specs.Bits.{Bits}
 use Rattle.bits.specs.Reader.{got}
 use Rattle.elements.specs.Table.{Counted, counted}
@@ -28,8 +28,8 @@ messages_regular = regular content-local content-passes
 all-normal : {ss : List Slot} {vs : List (Option Element)} → AllSlots (λ s e. element_normal s e ≡ e) ss vs → slots_normal ss vs ≡ vs
 unfolding normal_slots
 all-normal slots_end = refl
-all-normal (one-slot {v = none} h r) = ap (λ vs. none ∷ vs) (all-normal r)
-all-normal (one-slot {v = some e} h r) = rw (h, all-normal r)
+all-normal (one-slot {v = None} h r) = ap (λ vs. None ∷ vs) (all-normal r)
+all-normal (one-slot {v = Some e} h r) = rw (h, all-normal r)
 
 slots_own : (ss : List Slot) → SlotsOwn ss
 slots_own ss b bs rest y e = all-normal (scan-all identifier_of content (λ s n bs a rest. content-own s n bs) _ b ss bs e)

@@ -1,12 +1,12 @@
 -- Laws of a message's slots: what its record's fields are where the slots were written and read back, or read.
-use Rattle.std.specs.Prelude.{ℕ, zero, suc, ◌<◌, ◌≡◌, Bool, List, [], ◌∷◌, length, get_or}
+use Rattle.std.specs.Prelude.{ℕ, zero, suc, ◌<◌, ◌≡◌, Bool, List, [], ◌∷◌, length, get_or, option_map}
 use Rattle.std.proofs.Common.{arith, sym, ap, ◌∙◌}
 use Rattle.std.proofs.Math.Path.{refl}
 use Rattle.std.proofs.Math.Bool.{true, false}
-use Rattle.std.proofs.Math.Option.{Option, none, some}
+use Rattle.std.specs.Prelude.{Option, None, Some}
 use Rattle.bits.specs.Bits.{Bits}
 use Rattle.bits.specs.Reader.{got}
-use Rattle.elements.specs.Numbers.{held, option_map}
+use Rattle.elements.specs.Numbers.{held}
 use Rattle.elements.specs.Table.{Counted, scan_table}
 use Rattle.elements.proofs.TableBack.{SlotsBack, normal_slot, normal_slots}
 use Rattle.elements.specs.Lists.{downlinks, list_held, list_normal}
@@ -30,7 +30,7 @@ abbrev pub SlotsOwn : List Slot → Type 0
 SlotsOwn ss = (b : Bool) (bs rest : Bits) (y : Counted (List (Option Element))) → scan_table identifier_of content b ss bs ≡ got y rest → slots_normal ss y.value ≡ y.value
 
 slot_at : (ss : List Slot) (vs : List (Option Element)) (n : ℕ) (s : Slot) → n < length ss
-    → get_or (slots_normal ss vs) n none ≡ slot_normal (get_or ss n s) (get_or vs n none)
+    → get_or (slots_normal ss vs) n None ≡ slot_normal (get_or ss n s) (get_or vs n None)
 unfolding normal_slots
 slot_at [] vs n s h = absurd (omega arith)
 slot_at (t ∷ ss) [] zero s h = refl
@@ -47,14 +47,14 @@ field-own : {O : Type 0} {s : Slot} {field : Element → O} {normal : O → O} �
 field-own {O} {s} {field} {normal} absent present = record { at = go }
   where
     go : (v : Option Element) → slot_normal s v ≡ v → normal (field (held_element v)) ≡ field (held_element v)
-    go none e = absent
-    go (some a) e = let h : element_normal s a ≡ a = cc in rw (h, h) at (present a)
+    go None e = absent
+    go (Some a) e = let h : element_normal s a ≡ a = cc in rw (h, h) at (present a)
 
 -- so it is for each slot, where all slots are their own normal forms
 pub slot-own : (ss : List Slot) (vs : List (Option Element)) → slots_normal ss vs ≡ vs → {O : Type 0} {field : Element → O} {normal : O → O}
     → (n : ℕ) → n < length ss → Owned (get_or ss n (row 0 generic_type3)) field normal
-    → normal (field (held_element (get_or vs n none))) ≡ field (held_element (get_or vs n none))
-slot-own ss vs e n h o = o.at (get_or vs n none) (sym (slot_at ss vs n _ h) ∙ ap (λ ws. get_or ws n none) e)
+    → normal (field (held_element (get_or vs n None))) ≡ field (held_element (get_or vs n None))
+slot-own ss vs e n h o = o.at (get_or vs n None) (sym (slot_at ss vs n _ h) ∙ ap (λ ws. get_or ws n None) e)
 
 module _ (i : ℕ) where
   -- ## what was written and read back
@@ -63,13 +63,13 @@ module _ (i : ℕ) where
   pub record Slotted {A O : Type 0} (k : Kind) (field : Element → O) (is : A → Element) (of : Option A → O) : Type 0 where
     pub at : (o : Option A) → field (held_element (slot_normal (row i k) (option_map is o))) ≡ of o
 
-  field-slot : {A O : Type 0} {k : Kind} {field : Element → O} {is : A → Element} {of : Option A → O} → field no_element ≡ of none
-      → ((a : A) → field (normal_of k (is a)) ≡ of (some a)) → Slotted k field is of
+  field-slot : {A O : Type 0} {k : Kind} {field : Element → O} {is : A → Element} {of : Option A → O} → field no_element ≡ of None
+      → ((a : A) → field (normal_of k (is a)) ≡ of (Some a)) → Slotted k field is of
   field-slot {A} {O} {k} {field} {is} {of} absent present = record { at = go }
     where
       go : (o : Option A) → field (held_element (slot_normal (row i k) (option_map is o))) ≡ of o
-      go none = absent
-      go (some a) = present a
+      go None = absent
+      go (Some a) = present a
 
   pub type3_slot_lem : Slotted generic_type3 (λ e. e.type3) is_type3 type3_option
   unfolding normal_of

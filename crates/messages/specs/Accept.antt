@@ -1,9 +1,9 @@
 -- D-LOCATION UPDATE ACCEPT (EN 300 392-2, clause 16.9.2.7): how it is read and written, and what is asked of its record.
-use Rattle.std.specs.Prelude.{ℕ, ◌≡◌, Bool, true, not, ◌&&◌, ◌||◌, List, [], ◌∷◌, ◌++◌, get_or, eqb}
-use Rattle.std.proofs.Math.Option.{Option, none}
+use Rattle.std.specs.Prelude.{ℕ, ◌≡◌, Bool, true, not, ◌&&◌, ◌||◌, List, [], ◌∷◌, ◌++◌, get_or, eqb, option_map}
+use Rattle.std.specs.Prelude.{Option, None}
 use Rattle.bits.specs.Bits.{Bits, digits}
 use Rattle.bits.specs.Reader.{Reader, got, ◌>>=◌, field, pass}
-use Rattle.elements.specs.Numbers.{held, option_all, option_map, in_width, u64_of, in_u64, SameU64, Same, flag_width, type2, type2_bits, announced}
+use Rattle.elements.specs.Numbers.{held, option_all, in_width, u64_of, in_u64, SameU64, Same, flag_width, type2, type2_bits, announced}
 use Rattle.elements.specs.EnergySaving.{energy_saving, saving_bits, saving_fits, alive_has_none, others_have_both, saving_normal, SameSaving, saving_option}
 use Rattle.elements.specs.Generics.{type3_fits, type4_fits}
 use Rattle.elements.specs.Lists.{downlinks, list_one, list_listed}
@@ -50,7 +50,7 @@ accept_options =
     type2 (field scch_width) >>= λ f. got (accept_options_of s e c m f)
 
 abbrev pub no_accept_options : AcceptOptions
-no_accept_options = accept_options_of none none none none none
+no_accept_options = accept_options_of None None None None None
 
 abbrev pub accept_options_if : Bool → Reader AcceptOptions
 accept_options_if = behind_obit accept_options no_accept_options
@@ -95,7 +95,7 @@ accept_with h l type3 type4 = record {
 }
 
 abbrev pub accept_of : AcceptHead → List (Option Element) → DLocationUpdateAccept
-accept_of h vs = accept_with h (held_element (get_or vs 2 none)).location_accept (λ i. (held_element (get_or vs i none)).type3) (λ i. (held_element (get_or vs i none)).type4)
+accept_of h vs = accept_with h (held_element (get_or vs 2 None)).location_accept (λ i. (held_element (get_or vs i None)).type3) (λ i. (held_element (get_or vs i None)).type4)
 
 -- ## writing
 

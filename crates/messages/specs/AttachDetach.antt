@@ -1,9 +1,9 @@
 -- D-ATTACH/DETACH GROUP IDENTITY (EN 300 392-2, clause 16.9.2.1): how it is read and written, and what is asked of its record.
-use Rattle.std.specs.Prelude.{ℕ, ◌≡◌, Bool, true, not, List, [], ◌∷◌, ◌++◌, get_or, eqb}
-use Rattle.std.proofs.Math.Option.{Option, none}
+use Rattle.std.specs.Prelude.{ℕ, ◌≡◌, Bool, true, not, List, [], ◌∷◌, ◌++◌, get_or, eqb, option_map}
+use Rattle.std.specs.Prelude.{Option, None}
 use Rattle.bits.specs.Bits.{Bits, digits}
 use Rattle.bits.specs.Reader.{Reader, got, ◌>>=◌, field, pass}
-use Rattle.elements.specs.Numbers.{option_bits, option_all, option_map, in_width, flag_width, announced}
+use Rattle.elements.specs.Numbers.{option_bits, option_all, in_width, flag_width, announced}
 use Rattle.elements.specs.Generics.{type3_fits, type4_fits}
 use Rattle.elements.specs.Lists.{length_fits, downlinks, list_fits, list_one, list_listed, list_bits, list_held, list_normal, SameList}
 use Rattle.elements.specs.TableWritten.{table_bits}
@@ -52,7 +52,7 @@ attach_detach_with h l type3 type4 = record {
 }
 
 abbrev pub attach_detach_of : AttachDetachHead → List (Option Element) → DAttachDetachGroupIdentity
-attach_detach_of h vs = attach_detach_with h (held_element (get_or vs 2 none)).downlinks (λ i. (held_element (get_or vs i none)).type3) (λ i. (held_element (get_or vs i none)).type4)
+attach_detach_of h vs = attach_detach_with h (held_element (get_or vs 2 None)).downlinks (λ i. (held_element (get_or vs i None)).type3) (λ i. (held_element (get_or vs i None)).type4)
 
 -- ## writing
 

@@ -1,6 +1,6 @@
 -- A reading call and a writing call over octets and a window (document 01, 'A reading call', 'A writing call').
 use Rattle.std.specs.Prelude.{ℕ, zero, suc, ◌+◌, ◌-◌, ◌*◌, ◌/◌, Bool, cond, ◌&&◌, ◌||◌, List, [], length, drop, eqb, leb}
-use Rattle.std.proofs.Math.Option.{Option, none}
+use Rattle.std.specs.Prelude.{Option, None}
 use Rattle.bits.specs.PduParseError.{bad_call}
 use Rattle.bits.specs.Bits.{Bits}
 use Rattle.bits.specs.Reader.{Answer, got, refused, Reader}
@@ -27,7 +27,7 @@ use Rattle.messages.specs.declared.Verdict.TheVariants.{Accepted, Refused}
 -- ## records
 
 abbrev pub no_demand : ULocationUpdateDemand
-no_demand = demand_of (demand_head_of 0 0 0 none 0 no_demand_options) []
+no_demand = demand_of (demand_head_of 0 0 0 None 0 no_demand_options) []
 
 abbrev pub no_accept : DLocationUpdateAccept
 no_accept = accept_of (accept_head_of 0 0 no_accept_options) []

@@ -1,10 +1,10 @@
 -- U-LOCATION UPDATE DEMAND (EN 300 392-2, clause 16.9.3.4): how it is read and written, and what is asked of its record.
-use Rattle.std.specs.Prelude.{ℕ, ◌*◌, ◌/◌, ◌≡◌, Bool, true, ◌||◌, List, [], ◌∷◌, ◌++◌, get_or, eqb}
+use Rattle.std.specs.Prelude.{ℕ, ◌*◌, ◌/◌, ◌≡◌, Bool, true, ◌||◌, List, [], ◌∷◌, ◌++◌, get_or, eqb, option_map}
 use Rattle.std.specs.Bool.{beq}
-use Rattle.std.proofs.Math.Option.{Option, none}
+use Rattle.std.specs.Prelude.{Option, None}
 use Rattle.bits.specs.Bits.{Bits, digits}
 use Rattle.bits.specs.Reader.{Reader, got, ◌>>=◌, field, pass}
-use Rattle.elements.specs.Numbers.{held, optional_number, option_bits, option_all, option_map, in_width, u8_of, in_u8, u64_of, in_u64, SameU8, SameU64, Same, flag_width, type2, type2_bits, announced}
+use Rattle.elements.specs.Numbers.{held, optional_number, option_bits, option_all, in_width, u8_of, in_u8, u64_of, in_u64, SameU8, SameU64, Same, flag_width, type2, type2_bits, announced}
 use Rattle.elements.specs.ClassOfMs.{class_of_ms_element, class_bits, class_fits, class_option}
 use Rattle.elements.specs.EnergySaving.{saving_mode_width}
 use Rattle.elements.specs.Generics.{type3_fits}
@@ -57,7 +57,7 @@ demand_options =
     type2 (field extension_width) >>= λ e. got (demand_options_of c m (option_map halved l) s e)
 
 abbrev pub no_demand_options : DemandOptions
-no_demand_options = demand_options_of none none none none none
+no_demand_options = demand_options_of None None None None None
 
 abbrev pub demand_options_if : Bool → Reader DemandOptions
 demand_options_if = behind_obit demand_options no_demand_options
@@ -108,7 +108,7 @@ demand_with h l type3 = record {
 }
 
 abbrev pub demand_of : DemandHead → List (Option Element) → ULocationUpdateDemand
-demand_of h vs = demand_with h (held_element (get_or vs 0 none)).location_demand (λ i. (held_element (get_or vs i none)).type3)
+demand_of h vs = demand_with h (held_element (get_or vs 0 None)).location_demand (λ i. (held_element (get_or vs i None)).type3)
 
 -- ## writing
 

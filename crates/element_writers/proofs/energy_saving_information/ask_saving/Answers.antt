@@ -1,5 +1,5 @@
 -- `element_writers::energy_saving_information::ask_saving` meets its contract. Assumes nothing.
-use Rattle.elements.proofs.NumbersLaws.{is_present-held}
+use Rattle.elements.proofs.NumbersLaws.{is_some-held}
 use Rattle.elements.specs.EnergySaving.{saving_fits, alive_has_none, others_have_both}
 use Rattle.element_writers.proofs.energy_saving_information.ask_saving.Goals as goal
 
@@ -13,8 +13,8 @@ returns-then-o c =
       c.if-o.true,
       c.below_if.ensures,
       c.below_if-then-o.ensures,
-      is_present-held f.present f.value,
-      is_present-held n.present n.value,
+      is_some-held f.present f.value,
+      is_some-held n.present n.value,
     )
 
 pub returns : goal.returns

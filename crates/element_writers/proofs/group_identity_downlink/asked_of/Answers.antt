@@ -1,5 +1,5 @@
 -- `element_writers::group_identity_downlink::asked_of` meets its contract. Assumes nothing.
-use Rattle.elements.proofs.NumbersLaws.{is_present-held}
+use Rattle.elements.proofs.NumbersLaws.{is_some-held}
 use native.Mathlib.Omega.{arith}
 use Rattle.elements.specs.Groups.{attachment_bits, downlink_forms, downlink_attachment, downlink_detachment, downlink_address_in, downlink_bits, downlink_fits, downlink_one, downlink_listed}
 use Rattle.element_writers.specs.GroupsAsked.{option-size, attachment-size, downlink_listed_lem, group-size}
@@ -19,11 +19,11 @@ returns c =
         attachment-size g.group_identity_attachment_present g.group_identity_attachment,
         option-size g.group_identity_detachment_uplink_present 2 g.group_identity_detachment_uplink,
         group-size attachment_bits downlink_forms (downlink_attachment g) (downlink_detachment g) (downlink_address_in g),
-        is_present-held g.group_identity_attachment_present g.group_identity_attachment,
-        is_present-held g.group_identity_detachment_uplink_present g.group_identity_detachment_uplink,
-        is_present-held g.gssi_present g.gssi,
-        is_present-held g.address_extension_present g.address_extension,
-        is_present-held g.vgssi_present g.vgssi,
+        is_some-held g.group_identity_attachment_present g.group_identity_attachment,
+        is_some-held g.group_identity_detachment_uplink_present g.group_identity_detachment_uplink,
+        is_some-held g.gssi_present g.gssi,
+        is_some-held g.address_extension_present g.address_extension,
+        is_some-held g.vgssi_present g.vgssi,
         downlink_listed_lem g.gssi_present g.address_extension_present g.vgssi_present,
       ),
       omega arith,

@@ -1,5 +1,5 @@
 -- `element_writers::group_identity_downlink::front` meets its contract. Assumes nothing.
-use Rattle.elements.proofs.NumbersLaws.{is_present-held}
+use Rattle.elements.proofs.NumbersLaws.{is_some-held}
 use Rattle.bits.specs.DigitsLaws.{no_digits, ◌▹◌}
 use Rattle.element_writers.specs.GroupParts.{downlink_front}
 use Rattle.element_writers.proofs.group_identity_downlink.front.Goals as goal
@@ -9,10 +9,10 @@ unfolding downlink_front
 returns c =
     let g = c.args.g in
     rw (
-      is_present-held g.group_identity_attachment_present g.group_identity_attachment,
-      is_present-held g.gssi_present g.gssi,
-      is_present-held g.address_extension_present g.address_extension,
-      is_present-held g.vgssi_present g.vgssi,
+      is_some-held g.group_identity_attachment_present g.group_identity_attachment,
+      is_some-held g.gssi_present g.gssi,
+      is_some-held g.address_extension_present g.address_extension,
+      is_some-held g.vgssi_present g.vgssi,
       ← c.kind_of.ensures,
       ← c.downlink_type.ensures,
     )

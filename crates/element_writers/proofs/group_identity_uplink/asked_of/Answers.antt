@@ -1,5 +1,5 @@
 -- `element_writers::group_identity_uplink::asked_of` meets its contract. Assumes nothing.
-use Rattle.elements.proofs.NumbersLaws.{is_present-held}
+use Rattle.elements.proofs.NumbersLaws.{is_some-held}
 use native.Mathlib.Omega.{arith}
 use Rattle.bits.specs.Bits.{digits}
 use Rattle.elements.specs.Groups.{uplink_forms, uplink_class, uplink_detachment, uplink_address_in, uplink_bits, uplink_fits, uplink_one, uplink_listed}
@@ -20,11 +20,11 @@ returns c =
         option-size g.class_of_usage_present 3 g.class_of_usage,
         option-size g.group_identity_detachment_uplink_present 2 g.group_identity_detachment_uplink,
         group-size (digits 3) uplink_forms (uplink_class g) (uplink_detachment g) (uplink_address_in g),
-        is_present-held g.class_of_usage_present g.class_of_usage,
-        is_present-held g.group_identity_detachment_uplink_present g.group_identity_detachment_uplink,
-        is_present-held g.gssi_present g.gssi,
-        is_present-held g.address_extension_present g.address_extension,
-        is_present-held g.vgssi_present g.vgssi,
+        is_some-held g.class_of_usage_present g.class_of_usage,
+        is_some-held g.group_identity_detachment_uplink_present g.group_identity_detachment_uplink,
+        is_some-held g.gssi_present g.gssi,
+        is_some-held g.address_extension_present g.address_extension,
+        is_some-held g.vgssi_present g.vgssi,
         uplink_listed_lem g.gssi_present g.address_extension_present g.vgssi_present,
       ),
       omega arith,

@@ -1,5 +1,5 @@
 -- `element_writers::group_identity_uplink::front` meets its contract. Assumes nothing.
-use Rattle.elements.proofs.NumbersLaws.{is_present-held}
+use Rattle.elements.proofs.NumbersLaws.{is_some-held}
 use Rattle.bits.specs.DigitsLaws.{no_digits, ◌▹◌}
 use Rattle.element_writers.specs.GroupParts.{uplink_front}
 use Rattle.element_writers.proofs.group_identity_uplink.front.Goals as goal
@@ -9,10 +9,10 @@ unfolding uplink_front
 returns c =
     let g = c.args.g in
     rw (
-      is_present-held g.class_of_usage_present g.class_of_usage,
-      is_present-held g.gssi_present g.gssi,
-      is_present-held g.address_extension_present g.address_extension,
-      is_present-held g.vgssi_present g.vgssi,
+      is_some-held g.class_of_usage_present g.class_of_usage,
+      is_some-held g.gssi_present g.gssi,
+      is_some-held g.address_extension_present g.address_extension,
+      is_some-held g.vgssi_present g.vgssi,
       ← c.kind_of.ensures,
       ← c.uplink_type.ensures,
     )

@@ -1,54 +1,33 @@
--- `elements::group_address::read_parts` meets its contract: the parts of a form, one after the other, by the laws of an address.
-use Rattle.bits.specs.Reader.{field, word}
-use Rattle.bits.specs.Placed.{placed}
-use Rattle.bits.specs.PlacedLaws.{Gives, so, by, by-refusal}
-use Rattle.elements.specs.Groups.{address_width}
-use Rattle.elements.specs.Answers.{optional_u32, as_optional_u32}
-use Rattle.elements.proofs.PlacedGroups.{no_gssi, no_extension, no_vgssi, whole-address}
-use mathlib.Core.Path.{ap}
+-- `elements::group_address::read_parts` meets its contract: the parts of a form, one after the other.
+use Rattle.std.specs.Prelude.{option_map}
+use Rattle.bits.specs.Reader.{word}
+use Rattle.bits.specs.ReaderLaws.{local·rules}
+use Rattle.bits.specs.PlacedLaws.{so, from, handed_up, step, stop, done}
+use Rattle.elements.specs.Groups.{address_of}
+use Rattle.elements.proofs.PlacedOptional.{from-option}
 use Rattle.elements.proofs.group_address.read_parts.Goals as goal
-use Rattle.elements.proofs.group_address.read_parts.Goals.{In-Read, In-Read-e}
 
--- what the calls read
-gssi-read : (c : In-Read) → let a = c.args in
-    Gives (optional_u32 a.gssi (field address_width))
-    a.octets.now a.c (placed c.in-Read.gssi c.in-Read.c1)
-unfolding word
-gssi-read c = by c.read_optional_u32-g.ensures (ap as_optional_u32 c.in-Read.is)
+pub returns-in_err-gssi : goal.returns-in_err-gssi
+unfolding word address_of
+returns-in_err-gssi c = handed_up _ c.from_residual.ensures.1 (stop _ (from c.in_err-gssi.ensures))
 
-extension-read : (c : In-Read-e) → let a = c.args in
-    Gives (optional_u32 a.address_extension (field address_width))
-    a.octets.now c.in-Read.c1 (placed c.in-Read-e.address_extension c.in-Read-e.c2)
-unfolding word
-extension-read c = by c.read_optional_u32-e.ensures (ap as_optional_u32 c.in-Read-e.is)
+pub returns-in_err-address_extension : goal.returns-in_err-address_extension
+unfolding word address_of
+returns-in_err-address_extension c =
+    handed_up _ c.from_residual-in_err-address_extension.ensures.1
+    (step _ (from-option c.in_ok-gssi.ensures) (search local·rules) (stop _ (from c.in_err-address_extension.ensures)))
 
-pub returns-in_default : goal.returns-in_default
-unfolding word
-returns-in_default c =
-    so (no_gssi _ (by-refusal c.read_optional_u32-g.ensures (ap as_optional_u32 c.in_default.is) c.refusal.ensures))
-
-pub returns-in_default-e : goal.returns-in_default-e
-unfolding word
-returns-in_default-e c =
-    so
-    (no_extension _
-    (gssi-read ((goal.at.returns-in_default-e c).In-Read))
-    (by-refusal c.read_optional_u32-e.ensures (ap as_optional_u32 c.in_default-e.is) c.refusal-in_default-e.ensures))
-
-pub returns-in_default-v : goal.returns-in_default-v
-unfolding word
-returns-in_default-v c =
-    so
-    (no_vgssi _
-    (gssi-read ((goal.at.returns-in_default-v c).In-Read))
-    (extension-read ((goal.at.returns-in_default-v c).In-Read-e))
-    (by-refusal c.read_optional_u32-v.ensures (ap as_optional_u32 c.in_default-v.is) c.refusal-in_default-v.ensures))
+pub returns-in_err-vgssi : goal.returns-in_err-vgssi
+unfolding word address_of
+returns-in_err-vgssi c =
+    handed_up _ c.from_residual-in_err-vgssi.ensures.1
+    (step _ (from-option c.in_ok-gssi.ensures) (search local·rules)
+    (step _ (from-option c.in_ok-address_extension.ensures) (search local·rules) (stop _ (from c.in_err-vgssi.ensures))))
 
 pub returns : goal.returns
-unfolding word
+unfolding word address_of
 returns c =
     so
-    (whole-address _
-    (gssi-read ((goal.at.returns c).In-Read))
-    (extension-read ((goal.at.returns c).In-Read-e))
-    (by c.read_optional_u32-v.ensures (ap as_optional_u32 c.in-Read-v.is)))
+    (step _ (from-option c.in_ok-gssi.ensures) (search local·rules)
+    (step _ (from-option c.in_ok-address_extension.ensures) (search local·rules)
+    (step _ (from-option c.in_ok-vgssi.ensures) (search local·rules) done)))

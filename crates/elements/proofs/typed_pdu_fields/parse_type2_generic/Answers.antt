@@ -1,17 +1,14 @@
--- `elements::typed_pdu_fields::parse_type2_generic` meets its contract. Assumes nothing.
-use mathlib.Core.Path.{refl, ap}
+-- `elements::typed_pdu_fields::parse_type2_generic` meets its contract: the P-bit, and what is there behind a P-bit of 1.
+use Rattle.std.specs.Prelude.{option_map}
 use Rattle.bits.specs.Reader.{word}
-use Rattle.bits.specs.Placed.{as_field8}
-use Rattle.bits.specs.PlacedLaws.{so, by, by-refusal}
-use Rattle.elements.proofs.PlacedOptional.{type2-there, type2-ended}
+use Rattle.bits.specs.ReaderLaws.{local·rules}
+use Rattle.bits.specs.PlacedLaws.{so, from, handed_up_by, step, stop}
 use Rattle.elements.proofs.typed_pdu_fields.parse_type2_generic.Goals as goal
 
-pub returns-in_default : goal.returns-in_default
+pub returns-in_err-p : goal.returns-in_err-p
 unfolding word
-returns-in_default c =
-    so (type2-ended _ _ (by-refusal c.read_u8-f.ensures (ap as_field8 c.in_default.is) c.refusal.ensures))
+returns-in_err-p g c = handed_up_by (option_map g.T.Number.value) _ c.from_residual.ensures.1 (stop _ (from c.in_err-p.ensures))
 
 pub returns : goal.returns
 unfolding word
-returns c =
-    so (type2-there _ _ (by c.read_u8-f.ensures (ap as_field8 c.in-Value.is)) (by c.read_optional_u64.ensures refl))
+returns g c = so (step _ (from c.in_ok-p.ensures) (search local·rules) (from c.read_optional.ensures))

@@ -1,9 +1,6 @@
 -- `elements::typed_pdu_fields::skip_unlisted` meets its contract. The loop's invariant: the answer is that of what stands at the place, where `n`
--- elements were passed before, a bit at least for each. The measure is what is left of the bits. Assumes nothing.
-use Prim.Native.Nat.{◌≤◌}
-use mathlib.Core.Path.{◌≡◌}
-use mathlib.Core.Bool.{true}
-use lib.ListN.{length}
+-- elements were passed before, a bit at least for each. The measure is what is left of the bits.
+use Rattle.std.specs.Prelude.{◌≤◌, ◌≡◌, true, length}
 use Rattle.bits.specs.Placed.{window, at}
 use Rattle.elements.specs.Table.{is_listed}
 use Rattle.elements.specs.Kinds.{identifier_of}

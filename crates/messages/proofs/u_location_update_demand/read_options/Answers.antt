@@ -1,11 +1,11 @@
 -- `messages::u_location_update_demand::read_options` meets its contract: the type 2 elements one after the other; an absent LA is 0, and half of it too.
 use Prim.Native.Nat.{ℕ}
 use mathlib.Core.Path.{◌≡◌, refl, ap, ◌∙◌}
-use mathlib.Core.Option.{Option, none, some}
+use Rattle.std.specs.Prelude.{Option, None, Some, option_map}
 use Rattle.bits.specs.Reader.{word}
 use Rattle.bits.specs.ReaderLaws.{field-local}
 use Rattle.bits.specs.PlacedLaws.{so, by, by-refusal}
-use Rattle.elements.specs.Numbers.{option_map, u8_of, u64_of, in_u64}
+use Rattle.elements.specs.Numbers.{u8_of, u64_of, in_u64}
 use Rattle.elements.proofs.ClassOfMsLaws.{class-local}
 use Rattle.elements.specs.Answers.{as_optional_u8, as_optional_u64}
 use Rattle.elements.specs.ClassOfMs.{class_option}
@@ -22,8 +22,8 @@ halved-held : {v : OptionalU64} → u64_of (in_u64 v) ≡ v → u64_of (option_m
 halved-held {v} e = go (in_u64 v) ∙ ap (λ (w : OptionalU64). record { present = w.present; value = halved w.value }) e
   where
     go : (o : Option ℕ) → u64_of (option_map halved o) ≡ record { present = (u64_of o).present; value = halved (u64_of o).value }
-    go none = refl
-    go (some v) = refl
+    go None = refl
+    go (Some v) = refl
 
 -- how far the reading has come: past each field
 abbrev past-k : In-Read → Way demand_options

@@ -1,25 +1,17 @@
--- `bits::bitbuffer::Cursor::read` meets its contract. Assumes nothing.
+-- `bits::bitbuffer::Cursor::read` meets its contract.
 use native.Mathlib.Omega.{arith}
+use Prim.Native.Nat.{◌≤◌}
 use Rattle.bits.specs.PlacedLaws.{so, word_wide}
-use Rattle.bits.proofs.Held.{held, read-there, read-ended}
+use Rattle.bits.proofs.Held.{read-there, read-ended, low-bits}
 use Rattle.bits.proofs.bitbuffer.Cursor.read.Goals as goal
 
-pub returns-then-width-gt64 : goal.returns-then-width-gt64
-returns-then-width-gt64 c = so (word_wide _ _ _ 64 (omega arith))
-
-pub value-v-requires : goal.value-v-requires
-value-v-requires c =
-    let a = c.args in
-    omega (arith, held a.octets.now a.self a.width c.holds.ensures c.if-holds.true)
-
-pub past-requires : goal.past-requires
-past-requires c =
-    let a = c.args in
-    omega (arith, held a.octets.now a.self a.width c.holds.ensures c.if-holds.true)
+pub returns-then-BITS-width : goal.returns-then-BITS-width
+returns-then-BITS-width g c = so (word_wide _ _ _ _ (omega (arith, c.BITS.ensures)))
 
 pub returns-then-holds : goal.returns-then-holds
-returns-then-holds c =
-    read-there _ _ _ c.holds.ensures 64 c.if-holds.true (omega arith) c.value-v.ensures c.past.ensures
+returns-then-holds g c =
+    let narrow : c.args.width ≤ g.T.Number.BITS = omega (arith, c.BITS.ensures) in
+    read-there _ _ _ c.holds.ensures _ c.if-holds.true narrow (low-bits _ _ _ _ c.of.ensures c.value-v.ensures narrow) c.past.ensures
 
 pub returns : goal.returns
-returns c = read-ended _ _ _ c.holds.ensures 64 c.if-holds.false
+returns g c = read-ended _ _ _ c.holds.ensures _ c.if-holds.false

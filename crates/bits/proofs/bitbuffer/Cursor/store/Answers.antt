@@ -15,7 +15,7 @@ pub returns-then-width-gt64 : goal.returns-then-width-gt64
 returns-then-width-gt64 c =
     let a = c.args in
     let w = answers (field_wide a.width a.value a.octets.now a.self (omega arith)) in
-    record { answer = w.0; octets = w.1; room = λ e. omega (arith, e) }
+    record { answer = w.0; octets = w.1; room = tt }
 
 pub put-requires : goal.put-requires
 put-requires c =
@@ -30,7 +30,7 @@ returns-then-holds c =
     let r = held a.octets.now a.self a.width c.holds.ensures c.if-holds.true in
     let h = small a.value a.width c.within.ensures c.if-within.true in
     let w = answers (field-written a.width a.value a.octets.now a.self (omega arith) h r) in
-    record { answer = w.0; octets = c.put.ensures ∙ w.1; room = λ e. omega arith }
+    record { answer = w.0; octets = c.put.ensures ∙ w.1; room = omega arith }
 
 pub returns-then-within : goal.returns-then-within
 returns-then-within c =
@@ -38,11 +38,11 @@ returns-then-within c =
     let r = not-held a.octets.now a.self a.width c.holds.ensures c.if-holds.false in
     let h = small a.value a.width c.within.ensures c.if-within.true in
     let w = answers (field_no_room a.width a.value a.octets.now a.self (omega arith) h r) in
-    record { answer = w.0; octets = w.1; room = λ e. omega (arith, e) }
+    record { answer = w.0; octets = w.1; room = tt }
 
 pub returns : goal.returns
 returns c =
     let a = c.args in
     let h = ltb-false a.value (2 ^ a.width) (sym c.within.ensures ∙ c.if-within.false) in
     let w = answers (field_large a.width a.value a.octets.now a.self h) in
-    record { answer = w.0; octets = w.1; room = λ e. omega (arith, e) }
+    record { answer = w.0; octets = w.1; room = tt }

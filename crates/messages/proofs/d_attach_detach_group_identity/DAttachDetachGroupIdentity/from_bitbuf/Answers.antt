@@ -14,7 +14,7 @@ use Rattle.messages.specs.Calls.{attach_detach_format, of_attach_detach}
 use Rattle.messages.proofs.PlacedMessages.{no_head, none_follow, elements_follow}
 use Rattle.messages.specs.MessageAnswers.{as_attach_detach_head, attach_detach_answer, attach_detach_from}
 use mathlib.Core.Bool.{Bool, true, false}
-use mathlib.Core.Option.{Option}
+use Rattle.std.specs.Prelude.{Option}
 use mathlib.Core.List.{List, [], ◌∷◌, ◌++◌}
 use lib.ListN.{length, take, drop}
 use lib.Seq.{sets, take_all}
