@@ -1,6 +1,6 @@
 // Numbers and elements that may be absent, and the typed elements of annex E: type 2, type 3 and type 4, a table of listed
 // identifiers, and the unlisted ones that the skipping reading passes.
-ghost use Rattle.std.specs.Prelude.{◌≡◌, ◌+◌, ◌-◌, ◌≤◌, true, option_map, length, Some, None};
+ghost use Rattle.std.specs.Prelude.{◌≡◌, ◌-◌, ◌≤◌, true, option_map, length, Some, None};
 ghost use Rattle.bits.specs.Reader.{word, optional};
 ghost use Rattle.bits.specs.Placed.{window, at, as_by, as_read, as_moved, halted};
 ghost use Rattle.elements.specs.Numbers.{u8_of, u64_of, type2};
@@ -404,14 +404,6 @@ fn part_of(table: &[Row], from: usize, to: usize) -> &[Row]
     &table[from.min(end)..end]
 }
 
-// `n` elements skipped before, and `m` more: each has a bit at least before the place.
-fn count_on(n: usize, m: usize, place: Cursor) -> usize
-    requires { n + m ≤ place.at }
-    ensures { result ≡ n + m }
-{
-    n + m
-}
-
 // A part of a table, slot by slot: its slots, which hold generic elements and of which the first is the table's `from`, and what is
 // passed behind them.
 fn scan_slots(
@@ -439,7 +431,7 @@ fn scan_slots(
             return refused(g.unwrap_err());
         };
         generics[from + i] = element;
-        n = count_on(n, m, c1);
+        n += m;
         place = c2;
     }
     let b = read_behind(place, octets, table, last, wanted);
@@ -449,7 +441,7 @@ fn scan_slots(
     Judged {
         verdict: Ok(c3),
         value: Slots {
-            skipped: count_on(n, k, c3),
+            skipped: n + k,
             generics,
         },
     }

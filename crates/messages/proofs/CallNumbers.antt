@@ -22,6 +22,7 @@ use Rattle.messages.specs.declared.Record.{Record}
 use Rattle.messages.specs.declared.Reading.{Reading}
 use Rattle.messages.specs.declared.Writing.{Writing}
 use Rattle.messages.specs.declared.Verdict.TheVariants.{Accepted, Refused}
+use Rattle.bits.specs.declared.pdu_parse_error.PduParseErr.{PduParseErr}
 
 -- ## the three messages
 
@@ -60,10 +61,10 @@ message-numbered m b = bind_numbered (format_of m).head _ (head-numbered m) (λ 
 
 -- ## reading calls
 
-pub accepted-refused : {A : Type 0} {n : ℕ} → Accepted ≡ Refused n → A
+pub accepted-refused : {A : Type 0} {n : PduParseErr} → Accepted ≡ Refused n → A
 accepted-refused e = zero_one (cc)
 
-refused-number : {m n : ℕ} → Refused m ≡ Refused n → m ≡ n
+refused-number : {m n : PduParseErr} → Refused m ≡ Refused n → m ≡ n
 refused-number e = cc
 
 -- A READING IS REFUSED WITH 1 TO 7, and its answer is then the empty one at the first bit
@@ -73,7 +74,7 @@ pub record ReadingRefused (r : Reading) (n first : ℕ) : Type 0 where
   pub empty : r ≡ no_reading n first
 
 module _ (m how : ℕ) (os : List ℕ) (first end : ℕ) where
-  pub reading-refused : {n : ℕ} → (reading m how os first end).verdict ≡ Refused n → ReadingRefused (reading m how os first end) n first
+  pub reading-refused : {n : PduParseErr} → (reading m how os first end).verdict ≡ Refused n → ReadingRefused (reading m how os first end) n first
   unfolding reading
   reading-refused {n} e = go (good_call m how (length os) first end) e
     where
@@ -126,7 +127,7 @@ module _ (m : ℕ) (os : List ℕ) (first end : ℕ) (r : Record) where
       go true = ⊎_elim (λ p. inl p) (λ p. inr (inr p)) (first_no_lem (message_asked (message_of m) r) (length (message_bits (message_of m) r)) (end - first))
       go false = inr (inl refl)
 
-  pub writing-refused : {n : ℕ} → (writing m os first end r).verdict ≡ Refused n → WritingRefused (writing m os first end r) os (octets_written m os first end r) n
+  pub writing-refused : {n : PduParseErr} → (writing m os first end r).verdict ≡ Refused n → WritingRefused (writing m os first end r) os (octets_written m os first end r) n
   unfolding writing octets_written
   writing-refused {n} e = go (writing_refusal m (length os) first end r) refusal_number_lem e
     where

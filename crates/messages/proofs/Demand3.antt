@@ -14,6 +14,7 @@ use Rattle.elements.proofs.TableLaws.{used_of_lem, scan-strict, scan_tail, scan-
 use Rattle.elements.proofs.Cut.{Alike, give, refuse, cut-length, cut_none, Walks, scan-cut, scan-walks}
 use Rattle.messages.proofs.FormatLaws.{message-made}
 use Rattle.messages.specs.Format.{Format, Walked, leaves, stays, body, message, walked, walk_behind, walk_message}
+use Rattle.bits.specs.declared.pdu_parse_error.PduParseErr.{PduParseErr}
 
 -- what is asked of a message's head
 pub record RegularHead {S A R : Type 0} (f : Format S A R) : Type 0 where
@@ -31,7 +32,7 @@ pub record Regular {S A R : Type 0} (content : S → ℕ → Reader A) (f : Form
 
 -- no record is given
 abbrev pub Refuses : {A : Type 0} → Answer A → Type 0
-Refuses x = (n : ℕ) × (x ≡ refused n)
+Refuses x = (n : PduParseErr) × (x ≡ refused n)
 
 refuses-by : {A : Type 0} (x : Answer A) → ((a : A) (rest : Bits) → x ≡ got a rest → ⊥) → Refuses x
 refuses-by (got a rest) k = absurd (k a rest refl)
@@ -127,11 +128,11 @@ module _ {S A R : Type 0} (identifier : S → ℕ) (content : S → ℕ → Read
         )
         go (refuse j k p q) x rest = ((λ e. refused-got (sym p ∙ e)), (λ (n, e). refused-got (sym q ∙ e)))
 
-    no_layout : (bs : Bits) {n : ℕ} → f.layout bs ≡ refused n → (b : Bool) → Refuses (message identifier content f b bs)
+    no_layout : (bs : Bits) {n : PduParseErr} → f.layout bs ≡ refused n → (b : Bool) → Refuses (message identifier content f b bs)
     unfolding message
     no_layout bs e b = refuses-by (message identifier content f b bs) (λ x r p. split-then (f.head bs) _ p (λ h m q k. refused-got (sym e ∙ ok.heads.head_follows.at bs h m q)))
 
-    no_walk : (bs : Bits) {mid : Bits} {n : ℕ} → f.layout bs ≡ got true mid → walk mid ≡ refused n → (b : Bool) → Refuses (message identifier content f b bs)
+    no_walk : (bs : Bits) {mid : Bits} {n : PduParseErr} → f.layout bs ≡ got true mid → walk mid ≡ refused n → (b : Bool) → Refuses (message identifier content f b bs)
     no_walk bs e w b = refuses-by (message identifier content f b bs) (λ x r p. refused-got (sym w ∙ (walks_at b bs e p).walked))
 
     -- O-bit 0: the readings are the same

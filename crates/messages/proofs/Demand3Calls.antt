@@ -20,6 +20,7 @@ use Rattle.messages.proofs.CallNumbers.{accepted-refused}
 use Rattle.messages.specs.declared.Record.{Record}
 use Rattle.messages.specs.declared.Reading.{Reading}
 use Rattle.messages.specs.declared.Verdict.TheVariants.{Accepted, Refused}
+use Rattle.bits.specs.declared.pdu_parse_error.PduParseErr.{PduParseErr}
 
 -- a call gives a record, or none
 pub record Gives (r : Reading) (v : Record) : Type 0 where
@@ -27,7 +28,7 @@ pub record Gives (r : Reading) (v : Record) : Type 0 where
   pub same : r.«record» ≡ v
 
 abbrev pub GivesNone : Reading → Type 0
-GivesNone r = (n : ℕ) × (r.verdict ≡ Refused n)
+GivesNone r = (n : PduParseErr) × (r.verdict ≡ Refused n)
 
 -- a call S that skips, and a strict call T on the message with the elements us cut out
 pub record SkipsTo (S T : Reading) (us : List Piece) : Type 0 where

@@ -28,8 +28,9 @@ use Rattle.messages.specs.MessageAnswers.{demand_answer, accept_answer, attach_d
 use Rattle.messages.specs.declared.Record.{Record}
 use Rattle.messages.specs.declared.Reading.{Reading}
 use Rattle.messages.specs.declared.Verdict.TheVariants.{Accepted, Refused}
+use Rattle.bits.specs.declared.pdu_parse_error.PduParseErr.{PduParseErr}
 
-count-refused : {B : Type 0} {n k : ℕ} {c : Cursor} → S.Count n c ≡ S.Refused k → B
+count-refused : {B : Type 0} {n : ℕ} {k : PduParseErr} {c : Cursor} → S.Count n c ≡ S.Refused k → B
 count-refused e = zero_one (cc)
 
 module _ (m : Message) where
@@ -43,7 +44,7 @@ module _ (m : Message) where
     -- an answer that holds a verdict and beside it the message's own record, which `of` puts into the call's
     pub record Own (f : Placed (Counted Record) → X) (verdict : X → Skipped) (own : X → R) (of : R → Record) : Type 0 where
       pub to : (x : Counted Record) (k : Cursor) → verdict (f (placed x k)) ≡ S.Count x.skipped k
-      pub not : (n : ℕ) → verdict (f (halted n)) ≡ S.Refused n
+      pub not : (n : PduParseErr) → verdict (f (halted n)) ≡ S.Refused n
       pub is : (h : (format_of m).Head) (vs : List (Option Element)) (n : ℕ) (k : Cursor)
           → of (own (f (placed (counted n ((format_of m).finish h vs)) k))) ≡ (format_of m).finish h vs
 
@@ -70,7 +71,7 @@ module _ (m : Message) where
           go (halted i) q = count-refused (sym v ∙ ap verdict (e ∙ ap f q) ∙ o.not i)
 
       -- a refusal, by the number that the verdict's method gives
-      pub not_taken : {i n : ℕ} → verdict y ≡ S.Refused i → n ≡ refusal (as_skipped (verdict y)) → no_reading n c.at ≡ called m b os c.at c.end
+      pub not_taken : {i n : PduParseErr} → verdict y ≡ S.Refused i → n ≡ refusal (as_skipped (verdict y)) → no_reading n c.at ≡ called m b os c.at c.end
       not_taken {i} {n} v number = go (at (read_message m b) os c) refl
         where
           go : (p : Placed (Counted Record)) → at (read_message m b) os c ≡ p → no_reading n c.at ≡ called m b os c.at c.end
@@ -107,7 +108,7 @@ module _ (m how : ℕ) (os : List ℕ) (first end : ℕ) where
     pub call_taken : {n : ℕ} {k : Cursor} → verdict y ≡ S.Count n k → accepted first n k (of (own y)) ≡ reading m how os first end
     call_taken v = (taken (message_of m) o (eqb how 1) os _ e v).answer ∙ good_call_lem (message_of m) refl good
 
-    pub call_refused : {i n : ℕ} → verdict y ≡ S.Refused i → n ≡ refusal (as_skipped (verdict y)) → no_reading n first ≡ reading m how os first end
+    pub call_refused : {i n : PduParseErr} → verdict y ≡ S.Refused i → n ≡ refusal (as_skipped (verdict y)) → no_reading n first ≡ reading m how os first end
     call_refused v number = not_taken (message_of m) o (eqb how 1) os _ e v number ∙ good_call_lem (message_of m) refl good
 
   -- the window of a good call lies inside the octets, which are few
@@ -142,5 +143,5 @@ module _ (m how : ℕ) (os : List ℕ) (first end : ℕ) where
       → take (length os - (r.place + 7) / 8) (drop ((r.place + 7) / 8) os) ≡ behind (reading m how os first end) os
   behind-place {r} e v = rw (← e) (rw v (take_all (length os - (r.place + 7) / 8) (drop ((r.place + 7) / 8) os) (simp length-drop (omega arith))))
 
-  pub behind-refused : {r : Reading} {n : ℕ} → r ≡ reading m how os first end → r.verdict ≡ Refused n → os ≡ behind (reading m how os first end) os
+  pub behind-refused : {r : Reading} {n : PduParseErr} → r ≡ reading m how os first end → r.verdict ≡ Refused n → os ≡ behind (reading m how os first end) os
   behind-refused e v = rw (← e) (rw v)

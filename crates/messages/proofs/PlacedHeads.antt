@@ -15,6 +15,7 @@ use Rattle.elements.specs.EnergySaving.{saving_option, no_saving}
 use Rattle.elements.proofs.PlacedOptional.{made_of, made-not, option_of}
 use Rattle.messages.specs.Head.{pdu_type_width, pdu_type}
 use Rattle.messages.proofs.HeadLaws.{type_local, type2-local}
+use Rattle.bits.specs.declared.pdu_parse_error.PduParseErr.{PduParseErr}
 
 -- ## the type
 
@@ -23,7 +24,7 @@ module _ (m : ℕ) {os : List ℕ} {c : Cursor} where
   unfolding pdu_type
   type_there {v} e g = step _ g (search local·rules) (rw (eq-eqb v m e) done)
 
-  pub type_ended : {n : ℕ} → Gives (field pdu_type_width) os c (halted n) → Gives (pdu_type m) os c (halted n)
+  pub type_ended : {n : PduParseErr} → Gives (field pdu_type_width) os c (halted n) → Gives (pdu_type m) os c (halted n)
   unfolding pdu_type
   type_ended g = stop _ g
 
@@ -108,6 +109,6 @@ module _ {A B : Type 0} {f : Option A → B} (h : Holds f) where
         → Local q → Way s
     past-optional b w e l = past-made (optional Some None b q) w (option_of f b q e l made) (local_tail (optional-local Some None b q l))
 
-pub type2-stop : {A B C : Type 0} (f : Option A → B) (r : Reader A) (g : Option A → Reader C) {os : List ℕ} {c : Cursor} {n : ℕ}
+pub type2-stop : {A B C : Type 0} (f : Option A → B) (r : Reader A) (g : Option A → Reader C) {os : List ℕ} {c : Cursor} {n : PduParseErr}
     → Gives (type2_as f r) os c (halted n) → Gives (type2 r >>= g) os c (halted n)
 type2-stop f r g e = stop g (made-not f (type2 r) e)

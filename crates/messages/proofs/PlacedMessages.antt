@@ -14,6 +14,7 @@ use Rattle.elements.proofs.PlacedLocations.{empty_tail}
 use Rattle.elements.specs.Kinds.{Slot, Element, identifier_of, content}
 use Rattle.messages.specs.Format.{Format, body, message}
 use Rattle.messages.specs.declared.Record.{Record}
+use Rattle.bits.specs.declared.pdu_parse_error.PduParseErr.{PduParseErr}
 
 module _ (f : Format Slot Element Record) (skipping : Bool) where
   -- no slot of an empty table holds anything
@@ -23,7 +24,7 @@ module _ (f : Format Slot Element Record) (skipping : Bool) where
   body-empty h false bs e = cc
 
 module _ (f : Format Slot Element Record) (skipping : Bool) {os : List ℕ} {c : Cursor} where
-  pub no_head : {n : ℕ} → Gives f.head os c (halted n) → Gives (message identifier_of content f skipping) os c (halted n)
+  pub no_head : {n : PduParseErr} → Gives f.head os c (halted n) → Gives (message identifier_of content f skipping) os c (halted n)
   unfolding message
   no_head e = stop _ e
 
@@ -33,7 +34,7 @@ module _ (f : Format Slot Element Record) (skipping : Bool) {os : List ℕ} {c :
     unfolding message
     behind-head g = step (λ h. body identifier_of content f skipping h (f.more h)) e tail g
 
-    pub elements_follow : {n : ℕ} → Gives (empty_table (f.more h)) os k (halted n) → {x : Placed (Counted Record)} → Gives (body identifier_of content f skipping h true) os k x
+    pub elements_follow : {n : PduParseErr} → Gives (empty_table (f.more h)) os k (halted n) → {x : Placed (Counted Record)} → Gives (body identifier_of content f skipping h true) os k x
         → Gives (message identifier_of content f skipping) os c x
     elements_follow {n} g {x} b = behind-head (go (f.more h) g)
       where

@@ -17,12 +17,12 @@ use Rattle.messages.specs.AttachDetach.{attach_detach_head_of, attach_detach_hea
 use Rattle.messages.specs.declared.u_location_update_demand.ULocationUpdateDemand.{ULocationUpdateDemand}
 use Rattle.messages.specs.declared.d_location_update_accept.DLocationUpdateAccept.{DLocationUpdateAccept}
 use Rattle.messages.specs.declared.d_attach_detach_group_identity.DAttachDetachGroupIdentity.{DAttachDetachGroupIdentity}
+use Rattle.bits.specs.declared.pdu_parse_error.PduParseErr.{PduParseErr}
 use Rattle.bits.specs.declared.bitbuffer.Cursor.{Cursor}
 use Rattle.messages.specs.declared.Record.{Record}
 use Rattle.messages.specs.declared.Reading.{Reading}
 use Rattle.messages.specs.declared.Writing.{Writing}
-use Rattle.messages.specs.declared.Verdict.{Verdict}
-use Rattle.messages.specs.declared.Verdict.TheVariants.{Accepted, Refused}
+use Rattle.std.specs.Prelude.{Result, Ok, Err, Some}
 
 -- ## records
 
@@ -108,12 +108,12 @@ good_call m how n first end = known m && (leb how 1 && good_window n first end)
 abbrev pub window_of : List ℕ → ℕ → ℕ → Bits
 window_of os first end = window os (record { at = first; end = end })
 
-abbrev pub no_reading : ℕ → ℕ → Reading
-no_reading n first = record { verdict = Refused n; place = first; consumed = 0; skipped = 0; «record» = no_record }
+abbrev pub no_reading : PduParseErr → ℕ → Reading
+no_reading e first = record { verdict = Err e; place = first; consumed = 0; skipped = 0; «record» = no_record }
 
 abbrev pub reading_of : ℕ → ℕ → Answer (Counted Record) → Reading
 reading_of first n (got x rest) =
-    record { verdict = Accepted; place = first + (n - length rest); consumed = n - length rest; skipped = x.skipped; «record» = x.value }
+    record { verdict = Ok tt; place = first + (n - length rest); consumed = n - length rest; skipped = x.skipped; «record» = x.value }
 reading_of first n (refused k) = no_reading k first
 
 -- A READING CALL
@@ -125,16 +125,16 @@ reading m how os first end =
 
 -- the answer with a record that was read from `first` up to a cursor
 abbrev pub accepted : ℕ → ℕ → Cursor → Record → Reading
-accepted first n k r = record { verdict = Accepted; place = k.at; consumed = k.at - first; skipped = n; «record» = r }
+accepted first n k r = record { verdict = Ok tt; place = k.at; consumed = k.at - first; skipped = n; «record» = r }
 
 -- a call that passed question 1
 abbrev pub called : Message → Bool → List ℕ → ℕ → ℕ → Reading
 called m skipping os first end = reading_of first (length (window_of os first end)) (read_message m skipping (window_of os first end))
 
 -- ITS COMPANION: the octets after the last one consumed from; all of them with a refusal
-abbrev pub behind_of : Verdict → ℕ → List ℕ → List ℕ
-behind_of Accepted place os = drop ((place + 7) / 8) os
-behind_of (Refused n) place os = os
+abbrev pub behind_of : Result Unit PduParseErr → ℕ → List ℕ → List ℕ
+behind_of (Ok z) place os = drop ((place + 7) / 8) os
+behind_of (Err e) place os = os
 
 abbrev pub behind : Reading → List ℕ → List ℕ
 behind r os = behind_of r.verdict r.place os
@@ -162,18 +162,18 @@ SameMessage demand r s = SameDemand r.demand s.demand
 SameMessage accept r s = SameAccept r.accept s.accept
 SameMessage attach_detach r s = SameAttachDetach r.attach_detach s.attach_detach
 
--- the first question that is answered with no, 0 if there is none
-unfoldable pub writing_refusal : ℕ → ℕ → ℕ → ℕ → Record → ℕ
+-- the first question that is answered with no, if there is one
+unfoldable pub writing_refusal : ℕ → ℕ → ℕ → ℕ → Record → Option PduParseErr
 writing_refusal m n first end r =
-    cond (known m && good_window n first end) (first_no (message_asked (message_of m) r) (length (message_bits (message_of m) r)) (end - first)) bad_call
+    cond (known m && good_window n first end) (first_no (message_asked (message_of m) r) (length (message_bits (message_of m) r)) (end - first)) (Some bad_call)
 
-abbrev pub writing_of : ℕ → ℕ → Writing
-writing_of zero n = record { verdict = Accepted; written = n }
-writing_of (suc k) n = record { verdict = Refused (suc k); written = 0 }
+abbrev pub writing_of : Option PduParseErr → ℕ → Writing
+writing_of None n = record { verdict = Ok tt; written = n }
+writing_of (Some e) n = record { verdict = Err e; written = 0 }
 
-abbrev pub octets_after : ℕ → List ℕ → List ℕ → List ℕ
-octets_after zero os os' = os'
-octets_after (suc k) os os' = os
+abbrev pub octets_after : Option PduParseErr → List ℕ → List ℕ → List ℕ
+octets_after None os os' = os'
+octets_after (Some e) os os' = os
 
 -- A WRITING CALL: its answer, and the octets afterwards
 unfoldable pub writing : ℕ → List ℕ → ℕ → ℕ → Record → Writing

@@ -9,13 +9,12 @@ ghost use Rattle.std.specs.Prelude.{◌≡◌, ◌≤◌};
 ghost use Rattle.messages.specs.Calls.{demand, accept, attach_detach, known, good_window, good_call, no_reading, reading, behind};
 ghost use Rattle.messages.specs.Calls.{accepted, called};
 
-use bits::bitbuffer::Cursor;
-use bits::pdu_parse_error::BAD_CALL;
+use bits::bitbuffer::{Cursor, Read};
+use bits::pdu_parse_error::PduParseErr;
 use d_attach_detach_group_identity::{DAttachDetachGroupIdentity, no_attach_detach};
 use d_location_update_accept::{DLocationUpdateAccept, no_accept};
 use elements::mm_pdu_type_dl::{D_ATTACH_DETACH_GROUP_IDENTITY, D_LOCATION_UPDATE_ACCEPT};
 use elements::mm_pdu_type_ul::U_LOCATION_UPDATE_DEMAND;
-use elements::typed_pdu_fields::Skipped;
 use u_location_update_demand::{ULocationUpdateDemand, no_demand};
 
 // The record of a call: the message's own is filled, the others stay absent and zero.
@@ -27,11 +26,14 @@ pub struct Record {
     pub attach_detach: DAttachDetachGroupIdentity,
 }
 
+// The count skipped and the place, or the refusal; and the message's own record beside it.
 #[derive(Clone, Copy)]
-pub enum Verdict {
-    Accepted,
-    Refused(u8),
+pub struct MessageRead<M> {
+    pub verdict: Read<usize>,
+    pub record: M,
 }
+
+pub type Verdict = Result<(), PduParseErr>;
 
 // The answer of a reading call: a refusal has the first bit as its place, counts of 0 and the empty record.
 #[derive(Clone, Copy)]
@@ -101,11 +103,11 @@ pub fn is_good_call(octets: usize, first: usize, end: usize, message: u64, wante
 }
 
 // A refusal's answer.
-fn refused(n: u8, first: usize) -> Reading
-    ensures { result ≡ no_reading n first }
+fn refused(e: PduParseErr, first: usize) -> Reading
+    ensures { result ≡ no_reading e first }
 {
     Reading {
-        verdict: Verdict::Refused(n),
+        verdict: Err(e),
         place: first,
         consumed: 0,
         skipped: 0,
@@ -123,7 +125,7 @@ fn answered(first: usize, skipped: usize, c: Cursor, held: Record) -> Reading
     ensures { result ≡ accepted first skipped c held }
 {
     Reading {
-        verdict: Verdict::Accepted,
+        verdict: Ok(()),
         place: c.at,
         consumed: c.at - first,
         skipped: skipped,
@@ -140,8 +142,8 @@ fn read_demand(octets: &[u8], first: usize, end: usize, skipping: bool) -> Readi
     };
     let a = ULocationUpdateDemand::from_bitbuf(c, octets, skipping);
     let v = a.verdict;
-    let Skipped::Count(n, c1) = v else {
-        return refused(v.refusal(), first);
+    let Ok((n, c1)) = v else {
+        return refused(v.unwrap_err(), first);
     };
     let own = a.record;
     answered(
@@ -165,8 +167,8 @@ fn read_accept(octets: &[u8], first: usize, end: usize, skipping: bool) -> Readi
     };
     let a = DLocationUpdateAccept::from_bitbuf(c, octets, skipping);
     let v = a.verdict;
-    let Skipped::Count(n, c1) = v else {
-        return refused(v.refusal(), first);
+    let Ok((n, c1)) = v else {
+        return refused(v.unwrap_err(), first);
     };
     let own = a.record;
     answered(
@@ -190,8 +192,8 @@ fn read_attach_detach(octets: &[u8], first: usize, end: usize, skipping: bool) -
     };
     let a = DAttachDetachGroupIdentity::from_bitbuf(c, octets, skipping);
     let v = a.verdict;
-    let Skipped::Count(n, c1) = v else {
-        return refused(v.refusal(), first);
+    let Ok((n, c1)) = v else {
+        return refused(v.unwrap_err(), first);
     };
     let own = a.record;
     answered(
@@ -220,7 +222,7 @@ pub fn read(octets: &[u8], first: usize, end: usize, message: u64, wanted: u64) 
         }
         return read_attach_detach(octets, first, end, skipping);
     }
-    refused(BAD_CALL, first)
+    refused(PduParseErr::BadCall, first)
 }
 
 // Its companion: of the octets lent, those after the last one consumed from; all of them with a refusal.
@@ -229,7 +231,7 @@ pub fn rest(octets: &[u8], first: usize, end: usize, message: u64, wanted: u64) 
 {
     let r = read(octets, first, end, message, wanted);
     let v = r.verdict;
-    let Verdict::Accepted = v else {
+    let Ok(()) = v else {
         return octets;
     };
     let k = (r.place + 7) / 8;

@@ -42,10 +42,10 @@ returns-in_default-g c =
     (resumed_broken _ _ _ _ _ (next-slot ((goal.at.returns-in_default-g c).In-loop-i)) (from c.in-Ok.ensures)
     (refused_by c.read_generic_slot-g.ensures c.unwrap_err-in_default-g.ensures)).eq))
 
-pub count_on-n-requires : goal.count_on-n-requires
-count_on-n-requires c =
+pub overflow_add-n : goal.overflow_add-n
+overflow_add-n c =
     let m = skip-most (is_listed identifier_of (rows_of c.args.table.now)) c.args.wanted (from c.in-Ok.ensures) in
-    omega (arith)
+    grind arith
 
 pub loop-i-preserved : goal.loop-i-preserved
 loop-i-preserved c =
@@ -56,17 +56,17 @@ loop-i-preserved c =
     let m = skip-most (is_listed identifier_of (rows_of a.table.now)) a.wanted s in
     let o = (told (generic_slot_tail _) g).on in
     let on : a.from + l.i + 1 ≡ a.from + (l.i + 1) = omega arith in
-    rw c.count_on-n.ensures (omega arith, l.invariant.1 ∙ rw on at (resumed-on (rows_of a.table.now) a.wanted l.generics (a.from + l.i) l.n (next-slot ((goal.at.loop-i-preserved c).In-loop-i)) s g))
+    (omega arith, l.invariant.1 ∙ rw on at (resumed-on (rows_of a.table.now) a.wanted l.generics (a.from + l.i) l.n (next-slot ((goal.at.loop-i-preserved c).In-loop-i)) s g))
 
 pub returns-in_default-b : goal.returns-in_default-b
 returns-in_default-b c =
     c.refused-in_default-b.ensures ∙ answer slots_answer (no_behind _ _ _ _ _ (all_slots ((goal.at.returns-in_default-b c).After-loop-i))
     (refused_by c.read_behind-b.ensures c.unwrap_err-in_default-b.ensures))
 
-pub count_on-requires : goal.count_on-requires
-count_on-requires c =
+pub overflow_add-result : goal.overflow_add-result
+overflow_add-result c =
     let back = behind-most (rows_of c.args.table.now) c.args.wanted c.args.last (from c.in-Ok-b.ensures) in
-    omega (arith, c.loop-i.invariant.0)
+    grind (arith, c.loop-i.invariant.0)
 
 pub returns : goal.returns
-returns c = rw c.count_on.ensures (answer slots_answer (part-read _ _ _ _ _ (all_slots ((goal.at.returns c).After-loop-i)) (from c.in-Ok-b.ensures)))
+returns c = (answer slots_answer (part-read _ _ _ _ _ (all_slots ((goal.at.returns c).After-loop-i)) (from c.in-Ok-b.ensures)))
