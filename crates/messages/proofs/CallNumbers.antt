@@ -3,7 +3,7 @@ use Prim.Native.Nat.{ℕ, zero, suc, ◌-◌, ◌≤◌}
 use native.Mathlib.Omega.{arith}
 use Rattle.std.specs.Prelude.{◌≡◌, refl, ◌⊎◌, Bool, true, false, cond, ◌&&◌, List, length, eqb, leb}
 use Rattle.std.proofs.Math.Logic.{inl, inr, ⊎_elim}
-use Rattle.bits.specs.PduParseError.{invalid_pdu_type, bad_call}
+use Rattle.bits.specs.PduParseError.{number_of, bad_call, invalid_pdu_type, value_too_large, ciphering_mismatch, not_one_attachment, address_form_unlisted, stay_alive_with_frame, frame_missing, type4_not_written, length_too_large, window_too_short}
 use Rattle.bits.specs.Bits.{Bits}
 use Rattle.bits.specs.Reader.{Answer, got, refused, Reader, field}
 use Rattle.bits.specs.ReaderLaws.{zero_one}
@@ -21,7 +21,8 @@ use Rattle.messages.specs.Calls.{Message, demand, accept, attach_detach, message
 use Rattle.messages.specs.declared.Record.{Record}
 use Rattle.messages.specs.declared.Reading.{Reading}
 use Rattle.messages.specs.declared.Writing.{Writing}
-use Rattle.messages.specs.declared.Verdict.TheVariants.{Accepted, Refused}
+use Rattle.std.specs.Prelude.{Option, None, Some, Result, Ok, Err}
+use Rattle.std.proofs.Common.{ap}
 use Rattle.bits.specs.declared.pdu_parse_error.PduParseErr.{PduParseErr}
 
 -- ## the three messages
@@ -61,83 +62,87 @@ message-numbered m b = bind_numbered (format_of m).head _ (head-numbered m) (λ 
 
 -- ## reading calls
 
-pub accepted-refused : {A : Type 0} {n : PduParseErr} → Accepted ≡ Refused n → A
+pub accepted-refused : {A : Type 0} {n : PduParseErr} → ◌≡◌ {A = Result Unit PduParseErr} (Ok tt) (Err n) → A
 accepted-refused e = zero_one (cc)
 
-refused-number : {m n : PduParseErr} → Refused m ≡ Refused n → m ≡ n
+refused-number : {m n : PduParseErr} → ◌≡◌ {A = Result Unit PduParseErr} (Err m) (Err n) → m ≡ n
 refused-number e = cc
 
 -- A READING IS REFUSED WITH 1 TO 7, and its answer is then the empty one at the first bit
-pub record ReadingRefused (r : Reading) (n first : ℕ) : Type 0 where
-  pub low : 1 ≤ n
-  pub high : n ≤ 7
-  pub empty : r ≡ no_reading n first
+pub record ReadingRefused (r : Reading) (e : PduParseErr) (first : ℕ) : Type 0 where
+  pub low : 1 ≤ number_of e
+  pub high : number_of e ≤ 7
+  pub empty : r ≡ no_reading e first
 
 module _ (m how : ℕ) (os : List ℕ) (first end : ℕ) where
-  pub reading-refused : {n : PduParseErr} → (reading m how os first end).verdict ≡ Refused n → ReadingRefused (reading m how os first end) n first
+  pub reading-refused : {n : PduParseErr} → (reading m how os first end).verdict ≡ Err n → ReadingRefused (reading m how os first end) n first
   unfolding reading
   reading-refused {n} e = go (good_call m how (length os) first end) e
     where
       w : Bits
       w = window_of os first end
 
-      inner : (x : Answer (Counted Record)) → read_message (message_of m) (eqb how 1) w ≡ x → (reading_of first (length w) x).verdict ≡ Refused n
+      inner : (x : Answer (Counted Record)) → read_message (message_of m) (eqb how 1) w ≡ x → (reading_of first (length w) x).verdict ≡ Err n
           → ReadingRefused (reading_of first (length w) x) n first
       inner (got x rest) p e = accepted-refused e
       inner (refused k) p e =
           let h = (message-numbered (message_of m) (eqb how 1)).at w k p in
           let q : k ≡ n = refused-number e in
-          record { low = omega arith; high = omega arith; empty = rw q }
+          rw (← q) (record { low = omega arith; high = omega arith; empty = refl })
 
-      go : (b : Bool) → (cond b (reading_of first (length w) (read_message (message_of m) (eqb how 1) w)) (no_reading bad_call first)).verdict ≡ Refused n
+      go : (b : Bool) → (cond b (reading_of first (length w) (read_message (message_of m) (eqb how 1) w)) (no_reading bad_call first)).verdict ≡ Err n
           → ReadingRefused (cond b (reading_of first (length w) (read_message (message_of m) (eqb how 1) w)) (no_reading bad_call first)) n first
       go true e = inner (read_message (message_of m) (eqb how 1) w) refl e
-      go false e = let q : 1 ≡ n = refused-number e in record { low = omega arith; high = omega arith; empty = rw q }
+      go false e = let q : bad_call ≡ n = refused-number e in rw (← q) (record { low = omega arith; high = omega arith; empty = refl })
 
 -- ## writing calls
 
 -- A WRITING IS REFUSED WITH 1 OR 8 TO 16, writes no bit and changes no octet
-pub record WritingRefused (w : Writing) (os os' : List ℕ) (n : ℕ) : Type 0 where
-  pub numbers : (n ≡ 1) ⊎ ((8 ≤ n) × (n ≤ 16))
+pub record WritingRefused (w : Writing) (os os' : List ℕ) (e : PduParseErr) : Type 0 where
+  pub numbers : (number_of e ≡ 1) ⊎ ((8 ≤ number_of e) × (number_of e ≤ 16))
   pub none_written : w.written ≡ 0
   pub kept : os' ≡ os
 
-first_no_lem : (a : Asked) (size room : ℕ) → (first_no a size room ≡ 0) ⊎ ((8 ≤ first_no a size room) × (first_no a size room ≤ 16))
+-- a refusal of one of the questions 8 to 16, if there is one
+abbrev AskedNumber : Option PduParseErr → Type 0
+AskedNumber o = (e : PduParseErr) → o ≡ Some e → (8 ≤ number_of e) × (number_of e ≤ 16)
+
+one_of : (e : PduParseErr) → (8 ≤ number_of e) × (number_of e ≤ 16) → AskedNumber (Some e)
+one_of e h k p = let same : e ≡ k = cc in rw (← same) h
+
+first_no_lem : (a : Asked) (size room : ℕ) → AskedNumber (first_no a size room)
 unfolding first_no
 first_no_lem a size room =
-    ask a.fits (ask a.ciphered (ask a.attached (ask a.formed (ask a.alive (ask a.saving (ask a.type3_only (ask a.short
-    (ask (leb size room) (inl refl) (inr (omega arith, omega arith))) (inr (omega arith, omega arith))) (inr (omega arith, omega arith)))
-    (inr (omega arith, omega arith))) (inr (omega arith, omega arith))) (inr (omega arith, omega arith))) (inr (omega arith, omega arith)))
-    (inr (omega arith, omega arith))) (inr (omega arith, omega arith))
+    ask a.fits _ _ (ask a.ciphered _ _ (ask a.attached _ _ (ask a.formed _ _ (ask a.alive _ _ (ask a.saving _ _ (ask a.type3_only _ _ (ask a.short _ _
+    (ask (leb size room) _ _ (λ e p. zero_one (cc)) (one_of window_too_short (omega arith, omega arith))) (one_of length_too_large (omega arith, omega arith)))
+    (one_of type4_not_written (omega arith, omega arith))) (one_of frame_missing (omega arith, omega arith))) (one_of stay_alive_with_frame (omega arith, omega arith)))
+    (one_of address_form_unlisted (omega arith, omega arith))) (one_of not_one_attachment (omega arith, omega arith))) (one_of ciphering_mismatch (omega arith, omega arith)))
+    (one_of value_too_large (omega arith, omega arith))
   where
-    ask : (b : Bool) {x y : ℕ} → ((x ≡ 0) ⊎ ((8 ≤ x) × (x ≤ 16))) → ((y ≡ 0) ⊎ ((8 ≤ y) × (y ≤ 16))) → ((cond b x y ≡ 0) ⊎ ((8 ≤ cond b x y) × (cond b x y ≤ 16)))
-    ask true p q = p
-    ask false p q = q
+    ask : (b : Bool) (x y : Option PduParseErr) → AskedNumber x → AskedNumber y → AskedNumber (cond b x y)
+    ask true x y p q = p
+    ask false x y p q = q
 
 module _ (m : ℕ) (os : List ℕ) (first end : ℕ) (r : Record) where
-  refusal_number_lem : (writing_refusal m (length os) first end r ≡ 0) ⊎ ((writing_refusal m (length os) first end r ≡ 1)
-      ⊎ ((8 ≤ writing_refusal m (length os) first end r) × (writing_refusal m (length os) first end r ≤ 16)))
+  refusal_number_lem : (e : PduParseErr) → writing_refusal m (length os) first end r ≡ Some e → (number_of e ≡ 1) ⊎ ((8 ≤ number_of e) × (number_of e ≤ 16))
   unfolding writing_refusal
-  refusal_number_lem = go (known m && good_window (length os) first end)
+  refusal_number_lem e = go (known m && good_window (length os) first end)
     where
-      x : ℕ
+      x : Option PduParseErr
       x = first_no (message_asked (message_of m) r) (length (message_bits (message_of m) r)) (end - first)
 
-      go : (b : Bool) → (cond b x bad_call ≡ 0) ⊎ ((cond b x bad_call ≡ 1) ⊎ ((8 ≤ cond b x bad_call) × (cond b x bad_call ≤ 16)))
-      go true = ⊎_elim (λ p. inl p) (λ p. inr (inr p)) (first_no_lem (message_asked (message_of m) r) (length (message_bits (message_of m) r)) (end - first))
-      go false = inr (inl refl)
+      go : (b : Bool) → cond b x (Some bad_call) ≡ Some e → (number_of e ≡ 1) ⊎ ((8 ≤ number_of e) × (number_of e ≤ 16))
+      go true p = inr (first_no_lem (message_asked (message_of m) r) (length (message_bits (message_of m) r)) (end - first) e p)
+      go false p = let same : bad_call ≡ e = cc in rw (← same) (inl refl)
 
-  pub writing-refused : {n : PduParseErr} → (writing m os first end r).verdict ≡ Refused n → WritingRefused (writing m os first end r) os (octets_written m os first end r) n
+  pub writing-refused : {e : PduParseErr} → (writing m os first end r).verdict ≡ Err e → WritingRefused (writing m os first end r) os (octets_written m os first end r) e
   unfolding writing octets_written
-  writing-refused {n} e = go (writing_refusal m (length os) first end r) refusal_number_lem e
+  writing-refused {e} h = go (writing_refusal m (length os) first end r) (refusal_number_lem e) h
     where
-      go : (k : ℕ) → ((k ≡ 0) ⊎ ((k ≡ 1) ⊎ ((8 ≤ k) × (k ≤ 16)))) → (writing_of k (length (message_bits (message_of m) r))).verdict ≡ Refused n
-          → WritingRefused (writing_of k (length (message_bits (message_of m) r))) os (octets_after k os (put_bits os first (message_bits (message_of m) r))) n
-      go zero h e = accepted-refused e
-      go (suc k) h e =
-          let q : suc k ≡ n = refused-number e in
-          record {
-            numbers = ⊎_elim (λ p. absurd (omega arith)) (λ p. ⊎_elim (λ o. inl (omega arith)) (λ o. inr (omega arith, omega arith)) p) h;
-            none_written = refl;
-            kept = refl;
-          }
+      go : (o : Option PduParseErr) → (o ≡ Some e → (number_of e ≡ 1) ⊎ ((8 ≤ number_of e) × (number_of e ≤ 16)))
+          → (writing_of o (length (message_bits (message_of m) r))).verdict ≡ Err e
+          → WritingRefused (writing_of o (length (message_bits (message_of m) r))) os (octets_after o os (put_bits os first (message_bits (message_of m) r))) e
+      go None n v = accepted-refused v
+      go (Some k) n v =
+          let q : k ≡ e = refused-number v in
+          record { numbers = n (ap Some q); none_written = refl; kept = refl }

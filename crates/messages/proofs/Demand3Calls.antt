@@ -19,25 +19,25 @@ use Rattle.messages.proofs.ReadBack.{messages_regular}
 use Rattle.messages.proofs.CallNumbers.{accepted-refused}
 use Rattle.messages.specs.declared.Record.{Record}
 use Rattle.messages.specs.declared.Reading.{Reading}
-use Rattle.messages.specs.declared.Verdict.TheVariants.{Accepted, Refused}
+use Rattle.std.specs.Prelude.{Result, Ok, Err}
 use Rattle.bits.specs.declared.pdu_parse_error.PduParseErr.{PduParseErr}
 
 -- a call gives a record, or none
 pub record Gives (r : Reading) (v : Record) : Type 0 where
-  pub accepted : r.verdict ≡ Accepted
+  pub accepted : r.verdict ≡ Ok tt
   pub same : r.«record» ≡ v
 
 abbrev pub GivesNone : Reading → Type 0
-GivesNone r = (n : PduParseErr) × (r.verdict ≡ Refused n)
+GivesNone r = (n : PduParseErr) × (r.verdict ≡ Err n)
 
 -- a call S that skips, and a strict call T on the message with the elements us cut out
 pub record SkipsTo (S T : Reading) (us : List Piece) : Type 0 where
   -- S gives a record exactly when T gives that same record
   pub same : (v : Record) → Gives S v ↔ Gives T v
   -- with that record, S's count skipped is the number of elements cut
-  pub skipped : S.verdict ≡ Accepted → S.skipped ≡ length us
+  pub skipped : S.verdict ≡ Ok tt → S.skipped ≡ length us
   -- and its bits consumed are T's plus the bits cut
-  pub consumed : S.verdict ≡ Accepted → S.consumed ≡ T.consumed + total us
+  pub consumed : S.verdict ≡ Ok tt → S.consumed ≡ T.consumed + total us
 
 -- DEMAND 3 for the call on m, os, first and end
 pub record Demand3Call (m : ℕ) (os : List ℕ) (first end : ℕ) : Type 0 where

@@ -21,6 +21,7 @@ use Rattle.elements.specs.declared.group_identity_downlink.OptionalDownlinks.{Op
 use Rattle.elements.specs.declared.typed_pdu_fields.OptionalType4.{OptionalType4}
 use Rattle.messages.specs.Format.{message}
 use Rattle.messages.specs.Head.{pdu_type, any_of, any_present}
+use Rattle.bits.specs.PduParseError.{error_of}
 use Rattle.messages.specs.Questions.{first_no}
 use Rattle.messages.specs.Demand.{demand_head_of, demand_head, demand_options_of, demand_options, demand_of, demand_more, demand_bits, demand_asked}
 use Rattle.messages.specs.Accept.{accept_head, accept_options, no_accept_options, accept_of, accept_more, accept_bits, accept_asked}
@@ -31,7 +32,7 @@ use Rattle.messages.specs.declared.u_location_update_demand.ULocationUpdateDeman
 use Rattle.messages.specs.declared.Record.{Record}
 use Rattle.messages.specs.declared.Reading.{Reading}
 use Rattle.messages.specs.declared.Writing.{Writing}
-use Rattle.messages.specs.declared.Verdict.TheVariants.{Accepted, Refused}
+use Rattle.std.specs.Prelude.{Result, Ok, Err}
 
 pub data Row : Type 0 where
   -- message, reading, octets, first and end bit; the answer
@@ -61,13 +62,17 @@ pub data AllHold : List Row → Type 0 where
   ◌also◌ : {r : Row} {rs : List Row} → Holds r → AllHold rs → AllHold (r ∷ rs)
 
 abbrev accepted : ℕ → ℕ → Record → Reading
-accepted consumed skipped r = record { verdict = Accepted; place = consumed; consumed = consumed; skipped = skipped; «record» = r }
+accepted consumed skipped r = record { verdict = Ok tt; place = consumed; consumed = consumed; skipped = skipped; «record» = r }
 
 abbrev took : ℕ → Writing
-took n = record { verdict = Accepted; written = n }
+took n = record { verdict = Ok tt; written = n }
 
 abbrev refusing : ℕ → Writing
-refusing n = record { verdict = Refused n; written = 0 }
+refusing n = record { verdict = Err (error_of n); written = 0 }
+
+-- a reading refused with a number
+abbrev refuses : ℕ → ℕ → Reading
+refuses n first = no_reading (error_of n) first
 
 -- ## records
 
@@ -114,7 +119,7 @@ abbrev pub rows : List Row
 rows =
     -- 26 00: update type 3, nothing else; one bit less; and the skipping reading
     reads 2 0 (38 ∷ 0 ∷ []) 0 10 (accepted 10 0 plain)
-    ∷ reads 2 0 (38 ∷ 0 ∷ []) 0 9 (no_reading 2 0)
+    ∷ reads 2 0 (38 ∷ 0 ∷ []) 0 9 (refuses 2 0)
     ∷ reads 2 1 (38 ∷ 0 ∷ []) 0 10 (accepted 10 0 plain)
     -- 26 44 00 00 04: the same with SSI 1
     ∷ reads 2 0 (38 ∷ 68 ∷ 0 ∷ 0 ∷ 4 ∷ []) 0 40 (accepted 40 0 (of_demand (demand_with 0 None (Some 1))))
@@ -122,12 +127,12 @@ rows =
     ∷ reads 2 0 (38 ∷ 64 ∷ []) 0 16 (accepted 16 0 plain)
     ∷ writes 2 (255 ∷ 255 ∷ []) 0 16 plain (took 10) (38 ∷ 63 ∷ [])
     -- 26 41 D0 07 40: unlisted 13, length 3
-    ∷ reads 2 0 (38 ∷ 65 ∷ 208 ∷ 7 ∷ 64 ∷ []) 0 35 (no_reading 7 0)
+    ∷ reads 2 0 (38 ∷ 65 ∷ 208 ∷ 7 ∷ 64 ∷ []) 0 35 (refuses 7 0)
     ∷ reads 2 1 (38 ∷ 65 ∷ 208 ∷ 7 ∷ 64 ∷ []) 0 35 (accepted 35 1 plain)
     -- 26 41: an element's identifier outside the window
-    ∷ reads 2 0 (38 ∷ 65 ∷ []) 0 16 (no_reading 2 0)
+    ∷ reads 2 0 (38 ∷ 65 ∷ []) 0 16 (refuses 2 0)
     -- 36 00 is no demand
-    ∷ reads 2 0 (54 ∷ 0 ∷ []) 0 16 (no_reading 3 0)
+    ∷ reads 2 0 (54 ∷ 0 ∷ []) 0 16 (refuses 3 0)
     -- 56: an accept of 8 bits
     ∷ reads 5 0 (86 ∷ []) 0 8
     (accepted 8 0 (of_accept (accept_of (record { location_update_accept_type = 3; obit = 0; options = no_accept_options }) [])))
@@ -145,26 +150,26 @@ rows =
     ∷ class_word (0 ∷ 0 ∷ 224 ∷ []) (got version7 [])
     -- type 4 length 6 with count 0: an empty list, and not an absent one; length 5
     ∷ uplink_list 6 (0 ∷ []) (got (list_of uplinks (Some [])) (false ∷ false ∷ []))
-    ∷ uplink_list 5 (0 ∷ []) (refused 5)
+    ∷ uplink_list 5 (0 ∷ []) (refused (error_of 5))
     ∷ downlink_list 6 (0 ∷ []) (got (list_of downlinks (Some [])) (false ∷ false ∷ []))
-    ∷ downlink_list 5 (0 ∷ []) (refused 5)
+    ∷ downlink_list 5 (0 ∷ []) (refused (error_of 5))
     -- worked by hand: a location demand of length 3 whose reserved bit is 1
-    ∷ reads 2 0 (38 ∷ 65 ∷ 48 ∷ 7 ∷ 0 ∷ []) 0 35 (no_reading 4 0)
+    ∷ reads 2 0 (38 ∷ 65 ∷ 48 ∷ 7 ∷ 0 ∷ []) 0 35 (refuses 4 0)
     -- a list of downlink groups of length 5; of length 7 with no entry
-    ∷ reads 10 0 (161 ∷ 184 ∷ 5 ∷ 0 ∷ []) 0 31 (no_reading 5 0)
-    ∷ reads 10 0 (161 ∷ 184 ∷ 7 ∷ 0 ∷ []) 0 32 (no_reading 6 0)
+    ∷ reads 10 0 (161 ∷ 184 ∷ 5 ∷ 0 ∷ []) 0 31 (refuses 5 0)
+    ∷ reads 10 0 (161 ∷ 184 ∷ 7 ∷ 0 ∷ []) 0 32 (refuses 6 0)
     -- the listed identifier 4 twice: 7 in both readings
-    ∷ reads 2 0 (38 ∷ 65 ∷ 64 ∷ 1 ∷ 64 ∷ 0 ∷ []) 0 48 (no_reading 7 0)
-    ∷ reads 2 1 (38 ∷ 65 ∷ 64 ∷ 1 ∷ 64 ∷ 0 ∷ []) 0 48 (no_reading 7 0)
+    ∷ reads 2 0 (38 ∷ 65 ∷ 64 ∷ 1 ∷ 64 ∷ 0 ∷ []) 0 48 (refuses 7 0)
+    ∷ reads 2 1 (38 ∷ 65 ∷ 64 ∷ 1 ∷ 64 ∷ 0 ∷ []) 0 48 (refuses 7 0)
     -- unlisted 13 of length 0, listed 4 of length 2, unlisted 1 of length 1, unlisted 13 of length 0; and the cut message
-    ∷ reads 2 0 (38 ∷ 65 ∷ 208 ∷ 1 ∷ 64 ∷ 5 ∷ 196 ∷ 0 ∷ 250 ∷ 0 ∷ 0 ∷ []) 0 83 (no_reading 7 0)
+    ∷ reads 2 0 (38 ∷ 65 ∷ 208 ∷ 1 ∷ 64 ∷ 5 ∷ 196 ∷ 0 ∷ 250 ∷ 0 ∷ 0 ∷ []) 0 83 (refuses 7 0)
     ∷ reads 2 1 (38 ∷ 65 ∷ 208 ∷ 1 ∷ 64 ∷ 5 ∷ 196 ∷ 0 ∷ 250 ∷ 0 ∷ 0 ∷ []) 0 83 (accepted 83 3 with_response)
     ∷ reads 2 0 (38 ∷ 65 ∷ 64 ∷ 5 ∷ 128 ∷ []) 0 34 (accepted 34 0 with_response)
     -- QUESTION 1: an unknown message, a third reading, a window past the octets, a first bit past the end
-    ∷ reads 3 0 (38 ∷ 0 ∷ []) 0 10 (no_reading 1 0)
-    ∷ reads 2 2 (38 ∷ 0 ∷ []) 0 10 (no_reading 1 0)
-    ∷ reads 2 0 (38 ∷ 0 ∷ []) 7 17 (no_reading 1 7)
-    ∷ reads 2 0 (38 ∷ 0 ∷ []) 11 10 (no_reading 1 11)
+    ∷ reads 3 0 (38 ∷ 0 ∷ []) 0 10 (refuses 1 0)
+    ∷ reads 2 2 (38 ∷ 0 ∷ []) 0 10 (refuses 1 0)
+    ∷ reads 2 0 (38 ∷ 0 ∷ []) 7 17 (refuses 1 7)
+    ∷ reads 2 0 (38 ∷ 0 ∷ []) 11 10 (refuses 1 11)
     ∷ writes 3 (255 ∷ 255 ∷ []) 0 16 plain (refusing 1) (255 ∷ 255 ∷ [])
     -- a type 4 generic of length 65, or with 64 entries: 8; one that would fit: 14
     ∷ writes 10 (255 ∷ 255 ∷ []) 0 16 (with_type4 65 1 0) (refusing 8) (255 ∷ 255 ∷ [])

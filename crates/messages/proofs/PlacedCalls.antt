@@ -14,24 +14,29 @@ use Rattle.bits.specs.Placed.{window, Placed, placed, halted, at, refusal}
 use Rattle.bits.specs.PlacedLaws.{told, told-not, length-window}
 use Rattle.bits.specs.declared.bitbuffer.Cursor.{Cursor}
 use Rattle.elements.proofs.NumbersLaws.{both}
-use Rattle.elements.specs.Answers.{as_skipped}
 use Rattle.elements.specs.Table.{Counted, counted}
 use Rattle.elements.specs.Kinds.{Element, identifier_of, content}
-use Rattle.elements.specs.declared.typed_pdu_fields.Skipped.{Skipped}
-use Rattle.elements.specs.declared.typed_pdu_fields.Skipped.TheVariants as S
 use Rattle.messages.proofs.FormatLaws.{message-made}
 use Rattle.messages.proofs.Demand3.{message_tail}
 use Rattle.messages.proofs.ReadBack.{messages_regular}
 use Rattle.messages.proofs.CallNumbers.{accepted-refused}
 use Rattle.messages.specs.Calls.{accepted, called, Message, demand, accept, attach_detach, message_of, format_of, read_message, known, octets_most, good_window, good_call, window_of, no_reading, reading_of, reading, behind, of_demand, of_accept, of_attach_detach}
-use Rattle.messages.specs.MessageAnswers.{demand_answer, accept_answer, attach_detach_answer}
+use Rattle.messages.specs.MessageAnswers.{message_answer}
+use Rattle.messages.specs.declared.MessageRead.{MessageRead}
 use Rattle.messages.specs.declared.Record.{Record}
 use Rattle.messages.specs.declared.Reading.{Reading}
-use Rattle.messages.specs.declared.Verdict.TheVariants.{Accepted, Refused}
+use Rattle.std.specs.Prelude.{Result, Ok, Err}
 use Rattle.bits.specs.declared.pdu_parse_error.PduParseErr.{PduParseErr}
 
-count-refused : {B : Type 0} {n : ℕ} {k : PduParseErr} {c : Cursor} → S.Count n c ≡ S.Refused k → B
+count-refused : {B : Type 0} {x : ℕ × Cursor} {e : PduParseErr} → ◌≡◌ {A = Result (ℕ × Cursor) PduParseErr} (Ok x) (Err e) → B
 count-refused e = zero_one (cc)
+
+ok-same : {n m : ℕ} {j k : Cursor} → ◌≡◌ {A = Result (ℕ × Cursor) PduParseErr} (Ok (n , j)) (Ok (m , k)) → (n ≡ m) × (j ≡ k)
+ok-same {n} {m} {j} {k} e = (ap (λ (r : Result (ℕ × Cursor) PduParseErr). (value_in (n , j) r).0) e, ap (λ (r : Result (ℕ × Cursor) PduParseErr). (value_in (n , j) r).1) e)
+  where
+    value_in : ℕ × Cursor → Result (ℕ × Cursor) PduParseErr → ℕ × Cursor
+    value_in x (Ok y) = y
+    value_in x (Err e) = x
 
 module _ (m : Message) where
   -- what holds of each record that is made of a head and slots holds of each record that is read
@@ -40,56 +45,53 @@ module _ (m : Message) where
   made_by P made b bs e =
       message-made identifier_of content (format_of m) (λ x. P x.value) b bs (λ h mid p o y r q. made h y.value) (λ h mid p o. made h _) e
 
-  module _ {X R : Type 0} where
-    -- an answer that holds a verdict and beside it the message's own record, which `of` puts into the call's
-    pub record Own (f : Placed (Counted Record) → X) (verdict : X → Skipped) (own : X → R) (of : R → Record) : Type 0 where
-      pub to : (x : Counted Record) (k : Cursor) → verdict (f (placed x k)) ≡ S.Count x.skipped k
-      pub not : (n : PduParseErr) → verdict (f (halted n)) ≡ S.Refused n
-      pub is : (h : (format_of m).Head) (vs : List (Option Element)) (n : ℕ) (k : Cursor)
-          → of (own (f (placed (counted n ((format_of m).finish h vs)) k))) ≡ (format_of m).finish h vs
+  -- a message's own record, taken out of the call's and put into one
+  pub record Own {R : Type 0} (own : Record → R) (of : R → Record) : Type 0 where
+    pub is : (h : (format_of m).Head) (vs : List (Option Element)) → of (own ((format_of m).finish h vs)) ≡ (format_of m).finish h vs
 
-    module _ {f : Placed (Counted Record) → X} {verdict : X → Skipped} {own : X → R} {of : R → Record} (o : Own f verdict own of)
-        (b : Bool) (os : List ℕ) (c : Cursor) {y : X} (e : y ≡ f (at (read_message m b) os c)) where
-      pub record Taken (n : ℕ) (k : Cursor) : Type 0 where
-        pub on : c.at ≤ k.at
-        pub answer : accepted c.at n k (of (own y)) ≡ called m b os c.at c.end
+  module _ {R : Type 0} {own : Record → R} {of : R → Record} (o : Own own of) (absent : R)
+      (b : Bool) (os : List ℕ) (c : Cursor) {y : MessageRead R} (e : y ≡ message_answer own absent (at (read_message m b) os c)) where
+    pub record Taken (n : ℕ) (k : Cursor) : Type 0 where
+      pub on : c.at ≤ k.at
+      pub answer : accepted c.at n k (of y.«record») ≡ called m b os c.at c.end
 
-      pub taken : {n : ℕ} {k : Cursor} → verdict y ≡ S.Count n k → Taken n k
-      taken {n} {k} v = go (at (read_message m b) os c) refl
-        where
-          go : (p : Placed (Counted Record)) → at (read_message m b) os c ≡ p → Taken n k
-          go (placed x j) q =
-              let h : S.Count x.skipped j ≡ S.Count n k = sym (o.to x j) ∙ ap verdict (sym (e ∙ ap f q)) ∙ v in
-              let count : x.skipped ≡ n = cc in
-              let same : j ≡ k = cc in
-              let t = told (message_tail identifier_of content (format_of m) (messages_regular m) b) {a = x} {k = k} (record { eq = q ∙ ap (placed x) same }) in
-              let mine : of (own y) ≡ x.value = ap (λ (z : X). of (own z)) (e ∙ ap f q)
-              ∙ made_by (λ r. of (own (f (placed (counted x.skipped r) j))) ≡ r) (λ h vs. o.is h vs x.skipped j) b (window os c) t.said in
-              let consumed : k.at - c.at ≡ length (window os c) - length (window os k) = omega (arith, t.used, t.on) in
-              let place : k.at ≡ c.at + (length (window os c) - length (window os k)) = omega (arith, t.used, t.on) in
-              record { on = t.on; answer = rw t.said (rw (mine, ← count, ← place, ← consumed)) }
-          go (halted i) q = count-refused (sym v ∙ ap verdict (e ∙ ap f q) ∙ o.not i)
+    pub taken : {n : ℕ} {k : Cursor} → y.verdict ≡ Ok (n , k) → Taken n k
+    taken {n} {k} v = go (at (read_message m b) os c) refl
+      where
+        go : (p : Placed (Counted Record)) → at (read_message m b) os c ≡ p → Taken n k
+        go (placed x j) q =
+            let pair = ok-same (sym (ap (λ (y : MessageRead R). y.verdict) (e ∙ ap (message_answer own absent) q)) ∙ v) in
+            let count : x.skipped ≡ n = pair.0 in
+            let same : j ≡ k = pair.1 in
+            let t = told (message_tail identifier_of content (format_of m) (messages_regular m) b) {a = x} {k = k} (record { eq = q ∙ ap (placed x) same }) in
+            let mine : of y.«record» ≡ x.value = ap (λ (y : MessageRead R). of y.«record») (e ∙ ap (message_answer own absent) q)
+            ∙ made_by (λ r. of (own r) ≡ r) (λ h vs. o.is h vs) b (window os c) t.said in
+            let consumed : k.at - c.at ≡ length (window os c) - length (window os k) = omega (arith, t.used, t.on) in
+            let place : k.at ≡ c.at + (length (window os c) - length (window os k)) = omega (arith, t.used, t.on) in
+            record { on = t.on; answer = rw t.said (rw (mine, ← count, ← place, ← consumed)) }
+        go (halted i) q = count-refused (sym v ∙ ap (λ (y : MessageRead R). y.verdict) (e ∙ ap (message_answer own absent) q))
 
-      -- a refusal, by the number that the verdict's method gives
-      pub not_taken : {i n : PduParseErr} → verdict y ≡ S.Refused i → n ≡ refusal (as_skipped (verdict y)) → no_reading n c.at ≡ called m b os c.at c.end
-      not_taken {i} {n} v number = go (at (read_message m b) os c) refl
-        where
-          go : (p : Placed (Counted Record)) → at (read_message m b) os c ≡ p → no_reading n c.at ≡ called m b os c.at c.end
-          go (placed x j) q = count-refused (sym (o.to x j) ∙ ap verdict (sym (e ∙ ap f q)) ∙ v)
-          go (halted k) q =
-              let same : n ≡ k = number ∙ ap (λ (s : Skipped). refusal (as_skipped s)) (ap verdict (e ∙ ap f q) ∙ o.not k) in
-              rw (told-not (record { eq = q }), same)
+    -- a refusal
+    pub not_taken : {n : PduParseErr} → y.verdict ≡ Err n → no_reading n c.at ≡ called m b os c.at c.end
+    not_taken {n} v = go (at (read_message m b) os c) refl
+      where
+        go : (p : Placed (Counted Record)) → at (read_message m b) os c ≡ p → no_reading n c.at ≡ called m b os c.at c.end
+        go (placed x j) q = count-refused (sym (ap (λ (y : MessageRead R). y.verdict) (e ∙ ap (message_answer own absent) q)) ∙ v)
+        go (halted k) q =
+            let told_verdict : ◌≡◌ {A = Result (ℕ × Cursor) PduParseErr} (Err k) (Err n) = sym (ap (λ (y : MessageRead R). y.verdict) (e ∙ ap (message_answer own absent) q)) ∙ v in
+            let same : k ≡ n = cc in
+            rw (told-not (record { eq = q }), same)
 
 -- ## the three messages
 
-pub own-demand : Own demand demand_answer (λ r. r.verdict) (λ r. r.«record») of_demand
-own-demand = record { to = λ x k. refl; not = λ n. refl; is = λ h vs n k. refl }
+pub own-demand : Own demand (λ r. r.demand) of_demand
+own-demand = record { is = λ h vs. refl }
 
-pub own-accept : Own accept accept_answer (λ r. r.verdict) (λ r. r.«record») of_accept
-own-accept = record { to = λ x k. refl; not = λ n. refl; is = λ h vs n k. refl }
+pub own-accept : Own accept (λ r. r.accept) of_accept
+own-accept = record { is = λ h vs. refl }
 
-pub own-attach_detach : Own attach_detach attach_detach_answer (λ r. r.verdict) (λ r. r.«record») of_attach_detach
-own-attach_detach = record { to = λ x k. refl; not = λ n. refl; is = λ h vs n k. refl }
+pub own-attach_detach : Own attach_detach (λ r. r.attach_detach) of_attach_detach
+own-attach_detach = record { is = λ h vs. refl }
 
 -- ## the call
 
@@ -103,13 +105,14 @@ module _ (m how : ℕ) (os : List ℕ) (first end : ℕ) where
   bad_call_lem g = rw g
 
   -- A GOOD CALL, by the verdict of the message's reader
-  module _ {X R : Type 0} {f : Placed (Counted Record) → X} {verdict : X → Skipped} {own : X → R} {of : R → Record} (o : Own (message_of m) f verdict own of)
-      (good : good_call m how (length os) first end ≡ true) {y : X} (e : y ≡ f (at (read_message (message_of m) (eqb how 1)) os (record { at = first; end = end }))) where
-    pub call_taken : {n : ℕ} {k : Cursor} → verdict y ≡ S.Count n k → accepted first n k (of (own y)) ≡ reading m how os first end
-    call_taken v = (taken (message_of m) o (eqb how 1) os _ e v).answer ∙ good_call_lem (message_of m) refl good
+  module _ {R : Type 0} {own : Record → R} {of : R → Record} (o : Own (message_of m) own of) (absent : R)
+      (good : good_call m how (length os) first end ≡ true) {y : MessageRead R}
+      (e : y ≡ message_answer own absent (at (read_message (message_of m) (eqb how 1)) os (record { at = first; end = end }))) where
+    pub call_taken : {n : ℕ} {k : Cursor} → y.verdict ≡ Ok (n , k) → accepted first n k (of y.«record») ≡ reading m how os first end
+    call_taken v = (taken (message_of m) o absent (eqb how 1) os _ e v).answer ∙ good_call_lem (message_of m) refl good
 
-    pub call_refused : {i n : PduParseErr} → verdict y ≡ S.Refused i → n ≡ refusal (as_skipped (verdict y)) → no_reading n first ≡ reading m how os first end
-    call_refused v number = not_taken (message_of m) o (eqb how 1) os _ e v number ∙ good_call_lem (message_of m) refl good
+    pub call_refused : {n : PduParseErr} → y.verdict ≡ Err n → no_reading n first ≡ reading m how os first end
+    call_refused v = not_taken (message_of m) o absent (eqb how 1) os _ e v ∙ good_call_lem (message_of m) refl good
 
   -- the window of a good call lies inside the octets, which are few
   pub good_window_lem : good_call m how (length os) first end ≡ true → (first ≤ end) × (end ≤ 8 * length os) × (length os ≤ octets_most)
@@ -120,16 +123,16 @@ module _ (m how : ℕ) (os : List ℕ) (first end : ℕ) where
       (leb-true _ _ inside.0, leb-true _ _ inside.1, leb-true _ _ (both (leb (length os) octets_most) _ w).0)
 
   -- and so does a record's place
-  pub place_inside : {r : Reading} → r ≡ reading m how os first end → r.verdict ≡ Accepted → (r.place ≤ 8 * length os) × (length os ≤ octets_most)
+  pub place_inside : {r : Reading} → r ≡ reading m how os first end → r.verdict ≡ Ok tt → (r.place ≤ 8 * length os) × (length os ≤ octets_most)
   unfolding reading
   place_inside e v = rw e (go (good_call m how (length os) first end) refl (rw e at v))
     where
-      at_place : (x : Answer (Counted Record)) → (reading_of first (length (window_of os first end)) x).verdict ≡ Accepted
+      at_place : (x : Answer (Counted Record)) → (reading_of first (length (window_of os first end)) x).verdict ≡ Ok tt
           → (reading_of first (length (window_of os first end)) x).place ≤ first + length (window_of os first end)
       at_place (got x rest) v = omega arith
       at_place (refused n) v = accepted-refused (sym v)
 
-      go : (g : Bool) → good_call m how (length os) first end ≡ g → (cond g (called (message_of m) (eqb how 1) os first end) (no_reading bad_call first)).verdict ≡ Accepted
+      go : (g : Bool) → good_call m how (length os) first end ≡ g → (cond g (called (message_of m) (eqb how 1) os first end) (no_reading bad_call first)).verdict ≡ Ok tt
           → ((cond g (called (message_of m) (eqb how 1) os first end) (no_reading bad_call first)).place ≤ 8 * length os) × (length os ≤ octets_most)
       go true g v =
           let w = good_window_lem g in
@@ -139,9 +142,9 @@ module _ (m how : ℕ) (os : List ℕ) (first end : ℕ) where
       go false g v = accepted-refused (sym v)
 
   -- the octets behind it are an end of them
-  pub behind-place : {r : Reading} → r ≡ reading m how os first end → r.verdict ≡ Accepted
+  pub behind-place : {r : Reading} → r ≡ reading m how os first end → r.verdict ≡ Ok tt
       → take (length os - (r.place + 7) / 8) (drop ((r.place + 7) / 8) os) ≡ behind (reading m how os first end) os
   behind-place {r} e v = rw (← e) (rw v (take_all (length os - (r.place + 7) / 8) (drop ((r.place + 7) / 8) os) (simp length-drop (omega arith))))
 
-  pub behind-refused : {r : Reading} {n : PduParseErr} → r ≡ reading m how os first end → r.verdict ≡ Refused n → os ≡ behind (reading m how os first end) os
+  pub behind-refused : {r : Reading} {n : PduParseErr} → r ≡ reading m how os first end → r.verdict ≡ Err n → os ≡ behind (reading m how os first end) os
   behind-refused e v = rw (← e) (rw v)

@@ -8,11 +8,7 @@ use Rattle.bits.specs.ReaderLaws.{local·rules, local_tail, field-local, optiona
 use Rattle.bits.specs.Placed.{Placed, placed, halted}
 use Rattle.bits.specs.PlacedLaws.{Gives, step, stop, done, refuse}
 use Rattle.bits.specs.declared.bitbuffer.Cursor.{Cursor}
-use Rattle.elements.specs.Numbers.{held, u8_of, in_u8, u64_of, in_u64, type2, type2_as}
-use Rattle.elements.proofs.NumbersLaws.{held-option}
-use Rattle.elements.specs.ClassOfMs.{class_option, no_class}
-use Rattle.elements.specs.EnergySaving.{saving_option, no_saving}
-use Rattle.elements.proofs.PlacedOptional.{made_of, made-not, option_of}
+use Rattle.elements.specs.Numbers.{type2}
 use Rattle.messages.specs.Head.{pdu_type_width, pdu_type}
 use Rattle.messages.proofs.HeadLaws.{type_local, type2-local}
 use Rattle.bits.specs.declared.pdu_parse_error.PduParseErr.{PduParseErr}
@@ -67,48 +63,11 @@ abbrev pub past_type : {B : Type 0} (m : ℕ) (f : Unit → Reader B) {os : List
     → Way (pdu_type m >>= f)
 past_type m f e g = past f begin (type_there m e g) (local_tail (type_local m))
 
--- ## what may be absent, and the code holds as f makes it
+-- past a type 2 element, and past a field that is there where the test holds
+abbrev pub past-type2 : {A B K : Type 0} {r : Reader B} (q : Reader A) (f : Option A → Reader B) {os : List ℕ} {c k n : Cursor} {o : Option A}
+    → Comes K r os c (type2 q >>= f) k → Gives (type2 q) os k (placed o n) → Local q → Way r
+past-type2 q f w g l = past f w g (local_tail (type2-local q l))
 
--- the option that is held
-pub record Holds {A B : Type 0} (f : Option A → B) : Type 0 where
-  pub option : B → Option A
-  pub same : (o : Option A) → option (f o) ≡ o
-
-abbrev pub u8_holds : Holds u8_of
-u8_holds = record { option = in_u8; same = held-option 0 }
-
-abbrev pub u64_holds : Holds u64_of
-u64_holds = record { option = in_u64; same = held-option 0 }
-
-abbrev pub class-holds : Holds class_option
-class-holds = record { option = λ o. held o.present o.value; same = held-option no_class }
-
-abbrev pub saving-holds : Holds saving_option
-saving-holds = record { option = λ o. held o.present o.value; same = held-option no_saving }
-
-module _ {A B : Type 0} {f : Option A → B} (h : Holds f) where
-  -- v was made of an option that q gives
-  pub record Made (q : Reader (Option A)) (os : List ℕ) (c : Cursor) (v : B) (k : Cursor) : Type 0 where
-    pub whole : f (h.option v) ≡ v
-    pub there : Gives q os c (placed (h.option v) k)
-
-  pub made : {q : Reader (Option A)} {os : List ℕ} {c : Cursor} {v : B} {k : Cursor} (o : Option A) → f o ≡ v → Gives q os c (placed o k) → Made q os c v k
-  made o e g = rw (← e) (record { whole = ap f (h.same o); there = rw (h.same o) g })
-
-  module _ {C K : Type 0} {s : Reader C} (q : Reader A) (g : Option A → Reader C) {os : List ℕ} {c k n : Cursor} {v : B} where
-    -- past it, knowing that v holds that option
-    abbrev pub past-made : (p : Reader (Option A)) → Comes K s os c (p >>= g) k → Made p os k v n → Tail p → Way s
-    past-made p w m t = past {K = (f (h.option v) ≡ v) × K} g (record { on = w.on; known = (m.whole, w.known) }) m.there t
-
-    -- PAST A TYPE 2 ELEMENT
-    abbrev pub past-type2 : Comes K s os c (type2 q >>= g) k → Gives (type2_as f q) os k (placed v n) → Local q → Way s
-    past-type2 w e l = let t = local_tail (type2-local q l) in past-made (type2 q) w (made_of f (type2 q) e t made) t
-
-    -- past a field that is there where the test holds
-    abbrev pub past-optional : (b : Bool) → Comes K s os c (optional Some None b q >>= g) k → Gives (optional (λ a. f (Some a)) (f None) b q) os k (placed v n)
-        → Local q → Way s
-    past-optional b w e l = past-made (optional Some None b q) w (option_of f b q e l made) (local_tail (optional-local Some None b q l))
-
-pub type2-stop : {A B C : Type 0} (f : Option A → B) (r : Reader A) (g : Option A → Reader C) {os : List ℕ} {c : Cursor} {n : PduParseErr}
-    → Gives (type2_as f r) os c (halted n) → Gives (type2 r >>= g) os c (halted n)
-type2-stop f r g e = stop g (made-not f (type2 r) e)
+abbrev pub past-optional : {A B K : Type 0} {r : Reader B} (q : Reader A) (b : Bool) (f : Option A → Reader B) {os : List ℕ} {c k n : Cursor} {o : Option A}
+    → Comes K r os c (optional Some None b q >>= f) k → Gives (optional Some None b q) os k (placed o n) → Local q → Way r
+past-optional q b f w g l = past f w g (local_tail (optional-local Some None b q l))

@@ -12,6 +12,7 @@ use Rattle.bits.specs.WrittenLaws.{Writes, window-written, kept-before, kept-beh
 use Rattle.elements.specs.Table.{counted}
 use Rattle.elements.specs.Kinds.{identifier_of, content}
 use Rattle.elements.proofs.NumbersLaws.{both}
+use Rattle.bits.specs.ReaderLaws.{zero_one}
 use Rattle.messages.specs.Questions.{Asked, first_no}
 use Rattle.messages.proofs.Demand3.{strict-skipping}
 use Rattle.messages.specs.Calls.{Message, message_of, format_of, read_message, known, octets_most, good_window, window_of, reading, message_bits, message_asked, message_normal, SameMessage, writing_refusal, writing_of, writing, octets_written}
@@ -22,7 +23,9 @@ use Rattle.messages.proofs.Demand3Calls.{call_is, window-is}
 use Rattle.messages.specs.declared.Record.{Record}
 use Rattle.messages.specs.declared.Reading.{Reading}
 use Rattle.messages.specs.declared.Writing.{Writing}
-use Rattle.messages.specs.declared.Verdict.TheVariants.{Accepted}
+use Rattle.std.specs.Prelude.{Option, None, Some, Result, Ok, Err}
+use Rattle.bits.specs.PduParseError.{bad_call, value_too_large, ciphering_mismatch, not_one_attachment, address_form_unlisted, stay_alive_with_frame, frame_missing, type4_not_written, length_too_large, window_too_short}
+use Rattle.bits.specs.declared.pdu_parse_error.PduParseErr.{PduParseErr}
 
 -- ## a record that passes the questions
 
@@ -38,26 +41,26 @@ pub record Passed (a : Asked) (size room : ℕ) : Type 0 where
   pub enough : size ≤ room
 
 -- a question answered with yes, and none behind it with no
-record Yes (b : Bool) (x : ℕ) : Type 0 where
+record Yes (b : Bool) (x : Option PduParseErr) : Type 0 where
   yes : b ≡ true
-  next : x ≡ 0
+  next : x ≡ None
 
-asked-yes : (b : Bool) (n x : ℕ) → cond b x (suc n) ≡ 0 → Yes b x
+asked-yes : (b : Bool) (n : PduParseErr) (x : Option PduParseErr) → cond b x (Some n) ≡ None → Yes b x
 asked-yes true n x e = record { yes = refl; next = e }
-asked-yes false n x e = absurd (omega arith)
+asked-yes false n x e = zero_one (cc)
 
-pub passed : (a : Asked) (size room : ℕ) → first_no a size room ≡ 0 → Passed a size room
+pub passed : (a : Asked) (size room : ℕ) → first_no a size room ≡ None → Passed a size room
 unfolding first_no
 passed a size room e =
-    let q8 = asked-yes a.fits 7 _ e in
-    let q9 = asked-yes a.ciphered 8 _ q8.next in
-    let q10 = asked-yes a.attached 9 _ q9.next in
-    let q11 = asked-yes a.formed 10 _ q10.next in
-    let q12 = asked-yes a.alive 11 _ q11.next in
-    let q13 = asked-yes a.saving 12 _ q12.next in
-    let q14 = asked-yes a.type3_only 13 _ q13.next in
-    let q15 = asked-yes a.short 14 _ q14.next in
-    let q16 = asked-yes (leb size room) 15 0 q15.next in
+    let q8 = asked-yes a.fits value_too_large _ e in
+    let q9 = asked-yes a.ciphered ciphering_mismatch _ q8.next in
+    let q10 = asked-yes a.attached not_one_attachment _ q9.next in
+    let q11 = asked-yes a.formed address_form_unlisted _ q10.next in
+    let q12 = asked-yes a.alive stay_alive_with_frame _ q11.next in
+    let q13 = asked-yes a.saving frame_missing _ q12.next in
+    let q14 = asked-yes a.type3_only type4_not_written _ q13.next in
+    let q15 = asked-yes a.short length_too_large _ q14.next in
+    let q16 = asked-yes (leb size room) window_too_short None q15.next in
     record {
       fits = q8.yes;
       ciphered = q9.yes;
@@ -74,7 +77,7 @@ passed a size room e =
 
 -- the answer of a reading that gives v from n bits
 abbrev pub reads_back : ℕ → ℕ → Record → Reading
-reads_back first n v = record { verdict = Accepted; place = first + n; consumed = n; skipped = 0; «record» = v }
+reads_back first n v = record { verdict = Ok tt; place = first + n; consumed = n; skipped = 0; «record» = v }
 
 -- THE ROUND TRIP of a writing call on m, os, first and end that took r and wrote n bits, with the octets os' afterwards
 pub record RoundTrip (m : ℕ) (os : List ℕ) (first end : ℕ) (r : Record) (n : ℕ) (os' : List ℕ) : Type 0 where
@@ -103,21 +106,21 @@ module _ (m : ℕ) (os : List ℕ) (first end : ℕ) (r : Record) where
   xs : Bits
   xs = message_bits (message_of m) r
 
-  granted : writing_refusal m (length os) first end r ≡ 0
+  granted : writing_refusal m (length os) first end r ≡ None
       → (known m ≡ true) × (good_window (length os) first end ≡ true) × Passed (message_asked (message_of m) r) (length xs) (end - first)
   unfolding writing_refusal xs
   granted e =
-      let q = asked-yes (known m && good_window (length os) first end) 0 _ e in
+      let q = asked-yes (known m && good_window (length os) first end) bad_call _ e in
       let p = both (known m) _ q.yes in
       (p.0, p.1, passed (message_asked (message_of m) r) (length xs) (end - first) q.next)
 
-  took : (n : ℕ) → writing m os first end r ≡ record { verdict = Accepted; written = n } → Took m os first end r n
+  took : (n : ℕ) → writing m os first end r ≡ record { verdict = Ok tt; written = n } → Took m os first end r n
   unfolding writing octets_written xs
   took n e = go (writing_refusal m (length os) first end r) refl e
     where
-      go : (k : ℕ) → writing_refusal m (length os) first end r ≡ k → writing_of k (length xs) ≡ record { verdict = Accepted; written = n } → Took m os first end r n
-      go zero h e = let g = granted h in record { message = g.0; inside = g.1; asked = g.2; bits = ap (λ (w : Writing). w.written) (sym e); octets = rw h }
-      go (suc k) h e = accepted-refused (sym (ap (λ (w : Writing). w.verdict) e))
+      go : (k : Option PduParseErr) → writing_refusal m (length os) first end r ≡ k → writing_of k (length xs) ≡ record { verdict = Ok tt; written = n } → Took m os first end r n
+      go None h e = let g = granted h in record { message = g.0; inside = g.1; asked = g.2; bits = ap (λ (w : Writing). w.written) (sym e); octets = rw h }
+      go (Some k) h e = accepted-refused (sym (ap (λ (w : Writing). w.verdict) e))
 
 -- the record's bits, read strictly
 passed-back : (m : Message) (r : Record) (size room : ℕ) → FullList m r → Passed (message_asked m r) size room → (rest : Bits)
@@ -132,7 +135,7 @@ reads_back_lem m r size room ar p true rest =
     strict-skipping identifier_of content (format_of m) (messages_regular m) (message_bits m r ++ rest) (counted 0 (message_normal m r)) rest (passed-back m r size room ar p rest)
 
 pub round_trip : (m : ℕ) (os : List ℕ) (first end : ℕ) (r : Record) (n : ℕ) → FullList (message_of m) r
-    → writing m os first end r ≡ record { verdict = Accepted; written = n } → RoundTrip m os first end r n (octets_written m os first end r)
+    → writing m os first end r ≡ record { verdict = Ok tt; written = n } → RoundTrip m os first end r n (octets_written m os first end r)
 round_trip m os first end r n ar e =
     let t = took m os first end r n e in
     let w = both (leb (length os) octets_most) _ (rw (window-is (length os) first end) at t.inside) in

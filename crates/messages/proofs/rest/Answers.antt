@@ -11,13 +11,13 @@ returns-in_default c =
 pub overflow_add-k : goal.overflow_add-k
 overflow_add-k c =
     let a = c.args in
-    let p = place_inside a.message a.wanted a.octets.now a.first a.end c.read-r.ensures c.in-Accepted.is in
+    let p = place_inside a.message a.wanted a.octets.now a.first a.end c.read-r.ensures c.in-Ok.is in
     omega arith
 
 pub slice_bounds-result-count : goal.slice_bounds-result-count
 slice_bounds-result-count c =
     let a = c.args in
-    let p = place_inside a.message a.wanted a.octets.now a.first a.end c.read-r.ensures c.in-Accepted.is in
+    let p = place_inside a.message a.wanted a.octets.now a.first a.end c.read-r.ensures c.in-Ok.is in
     omega arith
 
 pub slice_bounds-result-start : goal.slice_bounds-result-start
@@ -26,4 +26,4 @@ slice_bounds-result-start c = slice_bounds-result-count c
 pub returns : goal.returns
 returns c =
     let a = c.args in
-    behind-place a.message a.wanted a.octets.now a.first a.end c.read-r.ensures c.in-Accepted.is
+    behind-place a.message a.wanted a.octets.now a.first a.end c.read-r.ensures c.in-Ok.is

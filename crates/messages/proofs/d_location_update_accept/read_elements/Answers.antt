@@ -11,9 +11,10 @@ use Rattle.bits.specs.PlacedLaws.{Gives, Fact, fact}
 use Rattle.elements.specs.Kinds.{Element, row, of_location_accept, held_element}
 use Rattle.elements.specs.Rows.{part, no_generics}
 use Rattle.elements.specs.GroupAnswers.{location_accept_slot}
-use Rattle.elements.proofs.Verdicts.{answer, numbered, verdict_to, verdict_refused, slots_beside, location_accept_slot-beside}
+use Rattle.elements.proofs.Verdicts.{answer, verdict_to, verdict_refused}
 use Rattle.elements.proofs.Parts.{Each, no_more, one_more, Parts, no_front_lem, no_slot, no_back, all_read}
 use Rattle.elements.specs.declared.typed_pdu_fields.Generic.{Generic}
+use Rattle.elements.specs.declared.typed_pdu_fields.Kind.TheVariants as K
 use Rattle.elements.specs.declared.typed_pdu_fields.Row.{Row}
 use Rattle.elements.specs.declared.group_identity_location_accept.OptionalLocationAccept.{OptionalLocationAccept}
 use Rattle.messages.specs.Accept.{accept_table}
@@ -22,14 +23,14 @@ use Rattle.messages.specs.MessageAnswers.{accept_from, accept_answer}
 use Rattle.messages.specs.declared.d_location_update_accept.AcceptHead.{AcceptHead}
 use Rattle.messages.specs.declared.Record.{Record}
 use Rattle.messages.proofs.d_location_update_accept.read_elements.Goals as goal
-use Rattle.messages.proofs.d_location_update_accept.read_elements.Goals.{In-To, In-To-w, In-To-x}
+use Rattle.messages.proofs.d_location_update_accept.read_elements.Goals.{In-Ok, In-Ok-w, In-Ok-x}
 
 -- the slots before the own one, and those behind it
 abbrev front : List Row
-front = record { identifier = 2; kind = 1 } ∷ record { identifier = 3; kind = 0 } ∷ []
+front = record { identifier = 2; kind = K.Type4 } ∷ record { identifier = 3; kind = K.Type3 } ∷ []
 
 abbrev back : List Row
-back = record { identifier = 1; kind = 0 } ∷ record { identifier = 10; kind = 0 } ∷ record { identifier = 12; kind = 1 } ∷ record { identifier = 13; kind = 0 } ∷ record { identifier = 15; kind = 0 } ∷ []
+back = record { identifier = 1; kind = K.Type3 } ∷ record { identifier = 10; kind = K.Type3 } ∷ record { identifier = 12; kind = K.Type4 } ∷ record { identifier = 13; kind = K.Type3 } ∷ record { identifier = 15; kind = K.Type3 } ∷ []
 
 -- what the slots hold, and the same as the code holds it, make the same record
 same_record : (h : AcceptHead) (vs ws : List (Option Element)) (v : Option Element) (gs hs : List Generic) → Each front vs gs → Each back ws hs
@@ -49,49 +50,49 @@ parts h = record {
 }
 
 -- each part, where it is read
-front_read : (c : In-To) → let a = c.args in
-    Gives (part accept_table front false a.skipping 0) a.octets.now a.c (placed c.scan_part-a.result.slots c.in-To.c1)
-front_read c = verdict_to slots_beside c.scan_part-a.ensures c.in-To.is
+front_read : (c : In-Ok) → let a = c.args in
+    Gives (part accept_table front false a.skipping 0) a.octets.now a.c (placed c.scan_part-a.result.value c.in-Ok.c1)
+front_read c = verdict_to _ c.scan_part-a.ensures c.in-Ok.is
 
-slot_read : (c : In-To-w) → Gives (location_accept_slot 5) c.args.octets.now c.in-To.c1 (placed c.read_location_accept_slot-d.result.location c.in-To-w.c2)
-slot_read c = verdict_to location_accept_slot-beside c.read_location_accept_slot-d.ensures c.in-To-w.is
+slot_read : (c : In-Ok-w) → Gives (location_accept_slot 5) c.args.octets.now c.in-Ok.c1 (placed c.read_location_accept_slot-d.result.value c.in-Ok-w.c2)
+slot_read c = verdict_to _ c.read_location_accept_slot-d.ensures c.in-Ok-w.is
 
-back_read : (c : In-To-x) → let a = c.args in
-    Gives (part accept_table back true a.skipping 3) a.octets.now c.in-To-w.c2 (placed c.scan_part-b.result.slots c.in-To-x.c3)
-back_read c = verdict_to slots_beside c.scan_part-b.ensures c.in-To-x.is
+back_read : (c : In-Ok-x) → let a = c.args in
+    Gives (part accept_table back true a.skipping 3) a.octets.now c.in-Ok-w.c2 (placed c.scan_part-b.result.value c.in-Ok-x.c3)
+back_read c = verdict_to _ c.scan_part-b.ensures c.in-Ok-x.is
 
 -- the table, of its parts
-abbrev whole : In-To-x → Fact
+abbrev whole : In-Ok-x → Fact
 unfolding location_accept_slot
 whole c =
     let a = c.args in
-    fact (all_read _ a.skipping (parts a.head) (verdict_to slots_beside c.scan_part-a.ensures c.in-To.is) (verdict_to location_accept_slot-beside c.read_location_accept_slot-d.ensures c.in-To-w.is) (back_read c))
+    fact (all_read _ a.skipping (parts a.head) (verdict_to _ c.scan_part-a.ensures c.in-Ok.is) (verdict_to _ c.read_location_accept_slot-d.ensures c.in-Ok-w.is) (back_read c))
 
 pub returns-in_default : goal.returns-in_default
 returns-in_default c =
     let a = c.args in
-    c.refused.ensures ∙ answer accept_answer (no_front_lem _ a.skipping (parts a.head) (verdict_refused slots_beside c.scan_part-a.ensures (numbered c.in_default.is c.refusal.ensures)))
+    c.refused.ensures ∙ answer accept_answer (no_front_lem _ a.skipping (parts a.head) (verdict_refused _ c.scan_part-a.ensures c.unwrap_err.ensures))
 
 pub returns-in_default-w : goal.returns-in_default-w
 unfolding location_accept_slot
 returns-in_default-w c =
     let a = c.args in
-    c.refused-in_default-w.ensures ∙ answer accept_answer (no_slot _ a.skipping (parts a.head) (front_read ((goal.at.returns-in_default-w c).In-To))
-    (verdict_refused location_accept_slot-beside c.read_location_accept_slot-d.ensures (numbered c.in_default-w.is c.refusal-in_default-w.ensures)))
+    c.refused-in_default-w.ensures ∙ answer accept_answer (no_slot _ a.skipping (parts a.head) (front_read ((goal.at.returns-in_default-w c).In-Ok))
+    (verdict_refused _ c.read_location_accept_slot-d.ensures c.unwrap_err-in_default-w.ensures))
 
 pub returns-in_default-x : goal.returns-in_default-x
 unfolding location_accept_slot
 returns-in_default-x c =
     let a = c.args in
-    c.refused-in_default-x.ensures ∙ answer accept_answer (no_back _ a.skipping (parts a.head) (front_read ((goal.at.returns-in_default-x c).In-To))
-    (slot_read ((goal.at.returns-in_default-x c).In-To-w)) (verdict_refused slots_beside c.scan_part-b.ensures (numbered c.in_default-x.is c.refusal-in_default-x.ensures)))
+    c.refused-in_default-x.ensures ∙ answer accept_answer (no_back _ a.skipping (parts a.head) (front_read ((goal.at.returns-in_default-x c).In-Ok))
+    (slot_read ((goal.at.returns-in_default-x c).In-Ok-w)) (verdict_refused _ c.scan_part-b.ensures c.unwrap_err-in_default-x.ensures))
 
 pub overflow_add-result : goal.overflow_add-result
 unfolding location_accept_slot
 overflow_add-result c =
-    let most = (whole ((goal.at.overflow_add-result c).In-To-x)).holds.most in
-    omega (arith)
+    let most = (whole ((goal.at.overflow_add-result c).In-Ok-x)).holds.most in
+    grind arith
 
 pub returns : goal.returns
 unfolding location_accept_slot
-returns c = rw c.record_of.ensures (answer accept_answer (whole ((goal.at.returns c).In-To-x)).holds.is)
+returns c = rw c.record_of.ensures (answer accept_answer (whole ((goal.at.returns c).In-Ok-x)).holds.is)

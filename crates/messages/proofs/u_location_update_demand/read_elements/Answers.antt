@@ -7,14 +7,14 @@ use Rattle.std.specs.Prelude.{Option}
 use mathlib.Core.List.{List, [], ◌∷◌, ◌++◌}
 use lib.Seq.{sets}
 use Rattle.bits.specs.Placed.{placed}
-use Rattle.bits.specs.PlacedLaws.{Gives, by, by-refusal, Fact, fact}
-use Rattle.elements.specs.Answers.{as_skipped}
+use Rattle.bits.specs.PlacedLaws.{Gives, from, refused_by, Fact, fact}
 use Rattle.elements.specs.Kinds.{Element, row, of_location_demand, held_element}
 use Rattle.elements.specs.Rows.{part, no_generics}
 use Rattle.elements.specs.GroupAnswers.{location_demand_slot}
-use Rattle.elements.proofs.Verdicts.{answer, numbered, verdict_to, verdict_refused, slots_beside, location_demand_slot-beside}
+use Rattle.elements.proofs.Verdicts.{answer, verdict_to, verdict_refused}
 use Rattle.elements.proofs.Parts.{Each, no_more, one_more, Parts, empty-part, empty-part-refused, no_front_lem, no_slot, no_back, all_read}
 use Rattle.elements.specs.declared.typed_pdu_fields.Generic.{Generic}
+use Rattle.elements.specs.declared.typed_pdu_fields.Kind.TheVariants as K
 use Rattle.elements.specs.declared.typed_pdu_fields.Row.{Row}
 use Rattle.elements.specs.declared.group_identity_location_demand.OptionalLocationDemand.{OptionalLocationDemand}
 use Rattle.messages.specs.Demand.{demand_table}
@@ -23,14 +23,14 @@ use Rattle.messages.specs.MessageAnswers.{demand_from, demand_answer}
 use Rattle.messages.specs.declared.u_location_update_demand.DemandHead.{DemandHead}
 use Rattle.messages.specs.declared.Record.{Record}
 use Rattle.messages.proofs.u_location_update_demand.read_elements.Goals as goal
-use Rattle.messages.proofs.u_location_update_demand.read_elements.Goals.{In-Count, In-To, In-To-x}
+use Rattle.messages.proofs.u_location_update_demand.read_elements.Goals.{In-Ok, In-Ok-w, In-Ok-x}
 
 -- the slots before the own one, and those behind it
 abbrev front : List Row
 front = []
 
 abbrev back : List Row
-back = record { identifier = 4; kind = 0 } ∷ record { identifier = 9; kind = 0 } ∷ record { identifier = 11; kind = 0 } ∷ record { identifier = 15; kind = 0 } ∷ []
+back = record { identifier = 4; kind = K.Type3 } ∷ record { identifier = 9; kind = K.Type3 } ∷ record { identifier = 11; kind = K.Type3 } ∷ record { identifier = 15; kind = K.Type3 } ∷ []
 
 -- what the slots hold, and the same as the code holds it, make the same record
 same_record : (h : DemandHead) (vs ws : List (Option Element)) (v : Option Element) (gs hs : List Generic) → Each front vs gs → Each back ws hs
@@ -50,49 +50,49 @@ parts h = record {
 }
 
 -- each part, where it is read
-front_read : (c : In-Count) → let a = c.args in
-    Gives (part demand_table front false a.skipping 0) a.octets.now a.c (placed (record { skipped = c.in-Count.n; generics = no_generics }) c.in-Count.c1)
-front_read c = empty-part _ _ false 0 (by c.skip_if-s.ensures (ap as_skipped c.in-Count.is))
+front_read : (c : In-Ok) → let a = c.args in
+    Gives (part demand_table front false a.skipping 0) a.octets.now a.c (placed (record { skipped = c.in-Ok.n; generics = no_generics }) c.in-Ok.c1)
+front_read c = empty-part _ _ false 0 (from c.in-Ok.ensures)
 
-slot_read : (c : In-To) → Gives (location_demand_slot 3) c.args.octets.now c.in-Count.c1 (placed c.read_location_demand_slot-d.result.location c.in-To.c2)
-slot_read c = verdict_to location_demand_slot-beside c.read_location_demand_slot-d.ensures c.in-To.is
+slot_read : (c : In-Ok-w) → Gives (location_demand_slot 3) c.args.octets.now c.in-Ok.c1 (placed c.read_location_demand_slot-d.result.value c.in-Ok-w.c2)
+slot_read c = verdict_to _ c.read_location_demand_slot-d.ensures c.in-Ok-w.is
 
-back_read : (c : In-To-x) → let a = c.args in
-    Gives (part demand_table back true a.skipping 1) a.octets.now c.in-To.c2 (placed c.scan_part-b.result.slots c.in-To-x.c3)
-back_read c = verdict_to slots_beside c.scan_part-b.ensures c.in-To-x.is
+back_read : (c : In-Ok-x) → let a = c.args in
+    Gives (part demand_table back true a.skipping 1) a.octets.now c.in-Ok-w.c2 (placed c.scan_part-b.result.value c.in-Ok-x.c3)
+back_read c = verdict_to _ c.scan_part-b.ensures c.in-Ok-x.is
 
 -- the table, of its parts
-abbrev whole : In-To-x → Fact
+abbrev whole : In-Ok-x → Fact
 unfolding location_demand_slot
 whole c =
     let a = c.args in
-    fact (all_read _ a.skipping (parts a.head) (empty-part _ _ false 0 (by c.skip_if-s.ensures (ap as_skipped c.in-Count.is))) (verdict_to location_demand_slot-beside c.read_location_demand_slot-d.ensures c.in-To.is) (back_read c))
+    fact (all_read _ a.skipping (parts a.head) (empty-part _ _ false 0 (from c.in-Ok.ensures)) (verdict_to _ c.read_location_demand_slot-d.ensures c.in-Ok-w.is) (back_read c))
 
 pub returns-in_default : goal.returns-in_default
 returns-in_default c =
     let a = c.args in
-    c.refused.ensures ∙ answer demand_answer (no_front_lem _ a.skipping (parts a.head) (empty-part-refused _ _ false 0 (by-refusal c.skip_if-s.ensures (ap as_skipped c.in_default.is) c.refusal.ensures)))
+    c.refused.ensures ∙ answer demand_answer (no_front_lem _ a.skipping (parts a.head) (empty-part-refused _ _ false 0 (refused_by c.skip_if-s.ensures c.unwrap_err.ensures)))
 
 pub returns-in_default-w : goal.returns-in_default-w
 unfolding location_demand_slot
 returns-in_default-w c =
     let a = c.args in
-    c.refused-in_default-w.ensures ∙ answer demand_answer (no_slot _ a.skipping (parts a.head) (front_read ((goal.at.returns-in_default-w c).In-Count))
-    (verdict_refused location_demand_slot-beside c.read_location_demand_slot-d.ensures (numbered c.in_default-w.is c.refusal-in_default-w.ensures)))
+    c.refused-in_default-w.ensures ∙ answer demand_answer (no_slot _ a.skipping (parts a.head) (front_read ((goal.at.returns-in_default-w c).In-Ok))
+    (verdict_refused _ c.read_location_demand_slot-d.ensures c.unwrap_err-in_default-w.ensures))
 
 pub returns-in_default-x : goal.returns-in_default-x
 unfolding location_demand_slot
 returns-in_default-x c =
     let a = c.args in
-    c.refused-in_default-x.ensures ∙ answer demand_answer (no_back _ a.skipping (parts a.head) (front_read ((goal.at.returns-in_default-x c).In-Count))
-    (slot_read ((goal.at.returns-in_default-x c).In-To)) (verdict_refused slots_beside c.scan_part-b.ensures (numbered c.in_default-x.is c.refusal-in_default-x.ensures)))
+    c.refused-in_default-x.ensures ∙ answer demand_answer (no_back _ a.skipping (parts a.head) (front_read ((goal.at.returns-in_default-x c).In-Ok))
+    (slot_read ((goal.at.returns-in_default-x c).In-Ok-w)) (verdict_refused _ c.scan_part-b.ensures c.unwrap_err-in_default-x.ensures))
 
 pub overflow_add-result : goal.overflow_add-result
 unfolding location_demand_slot
 overflow_add-result c =
-    let most = (whole ((goal.at.overflow_add-result c).In-To-x)).holds.most in
-    omega (arith)
+    let most = (whole ((goal.at.overflow_add-result c).In-Ok-x)).holds.most in
+    grind arith
 
 pub returns : goal.returns
 unfolding location_demand_slot
-returns c = rw c.record_of.ensures (answer demand_answer (whole ((goal.at.returns c).In-To-x)).holds.is)
+returns c = rw c.record_of.ensures (answer demand_answer (whole ((goal.at.returns c).In-Ok-x)).holds.is)

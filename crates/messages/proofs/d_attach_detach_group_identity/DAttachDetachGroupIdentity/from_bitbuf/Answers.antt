@@ -4,15 +4,15 @@ use mathlib.Core.Path.{◌≡◌, ap, ◌∙◌, refl}
 use native.Mathlib.Omega.{arith}
 use Prim.Native.Nat.{◌+◌, ℕ, ◌-◌}
 use Rattle.bits.specs.ReaderLaws.{local_tail}
-use Rattle.bits.specs.Placed.{as_moved, placed, at}
-use Rattle.bits.specs.PlacedLaws.{by, by-refusal, Gives, Fact, fact}
+use Rattle.bits.specs.Placed.{placed, at}
+use Rattle.bits.specs.PlacedLaws.{Gives, by, from, refused_by, Fact, fact}
 use Rattle.elements.specs.GroupAnswers.{downlinks_slot, downlinks_answer}
-use Rattle.elements.proofs.Verdicts.{answer, numbered, verdict_refused, slots_beside, downlinks-beside, verdict_to}
+use Rattle.elements.proofs.Verdicts.{answer, verdict_refused, verdict_to}
 use Rattle.elements.proofs.Parts.{no_front_lem, no_slot, no_back, Each, no_more, one_more, Parts, all_read}
 use Rattle.messages.proofs.AttachDetachLaws.{attach_detach_head-local}
 use Rattle.messages.specs.Calls.{attach_detach_format, of_attach_detach}
 use Rattle.messages.proofs.PlacedMessages.{no_head, none_follow, elements_follow}
-use Rattle.messages.specs.MessageAnswers.{as_attach_detach_head, attach_detach_answer, attach_detach_from}
+use Rattle.messages.specs.MessageAnswers.{attach_detach_answer, attach_detach_from}
 use mathlib.Core.Bool.{Bool, true, false}
 use Rattle.std.specs.Prelude.{Option}
 use mathlib.Core.List.{List, [], ◌∷◌, ◌++◌}
@@ -24,6 +24,7 @@ use Rattle.elements.specs.Rows.{part, no_generics}
 use Rattle.elements.proofs.PlacedLocations.{downlinks_slot_lem}
 use Rattle.elements.proofs.EmptyParts.{part-ended}
 use Rattle.elements.specs.declared.typed_pdu_fields.Generic.{Generic}
+use Rattle.elements.specs.declared.typed_pdu_fields.Kind.TheVariants as K
 use Rattle.elements.specs.declared.typed_pdu_fields.Row.{Row}
 use Rattle.elements.specs.declared.group_identity_downlink.OptionalDownlinks.{OptionalDownlinks}
 use Rattle.messages.specs.Format.{body, message}
@@ -31,14 +32,14 @@ use Rattle.messages.specs.AttachDetach.{attach_detach_table, attach_detach_head}
 use Rattle.messages.specs.declared.d_attach_detach_group_identity.AttachDetachHead.{AttachDetachHead}
 use Rattle.messages.specs.declared.Record.{Record}
 use Rattle.messages.proofs.d_attach_detach_group_identity.DAttachDetachGroupIdentity.from_bitbuf.Goals as goal
-use Rattle.messages.proofs.d_attach_detach_group_identity.DAttachDetachGroupIdentity.from_bitbuf.Goals.{After-read_downlinks_slot-d, In-Read, In-To-v, In-To-w, In-To-x, In-To-z, In_default-e}
+use Rattle.messages.proofs.d_attach_detach_group_identity.DAttachDetachGroupIdentity.from_bitbuf.Goals.{After-read_downlinks_slot-d, In-Ok, In-Ok-v, In-Ok-w, In-Ok-x, In-Ok-z, In_default-e}
 
 -- the slots before the own one, and those behind it
 abbrev front : List Row
-front = record { identifier = 15; kind = 0 } ∷ record { identifier = 4; kind = 0 } ∷ []
+front = record { identifier = 15; kind = K.Type3 } ∷ record { identifier = 4; kind = K.Type3 } ∷ []
 
 abbrev back : List Row
-back = record { identifier = 12; kind = 1 } ∷ []
+back = record { identifier = 12; kind = K.Type4 } ∷ []
 
 -- what the slots hold, and the same as the code holds it, make the same record
 same_record : (h : AttachDetachHead) (vs ws : List (Option Element)) (v : Option Element) (gs hs : List Generic) → Each front vs gs → Each back ws hs
@@ -68,86 +69,88 @@ lent os c skipping =
     ap (λ (xs : List ℕ). attach_detach_answer (at (message identifier_of content attach_detach_format skipping) xs c)) (take_all (length os - 0) (drop 0 os) (omega arith))
 
 -- the head
-headed : (c : In-Read) → Gives attach_detach_head (anew c.args.octets.now) c.args.c (placed c.in-Read.head c.in-Read.c1)
-headed c = by c.read_head-h.ensures (ap as_attach_detach_head c.in-Read.is)
+headed : (c : In-Ok) → Gives attach_detach_head (anew c.args.octets.now) c.args.c (placed c.in-Ok.head c.in-Ok.c1)
+headed c = from c.in-Ok.ensures
 
 -- behind a head that no empty table follows, the answer is that of the elements
 following : (c : In_default-e) → let a = c.args in
-    attach_detach_answer (at (body identifier_of content attach_detach_format a.skipping c.in-Read.head true) (anew a.octets.now) c.in-Read.c1)
+    attach_detach_answer (at (body identifier_of content attach_detach_format a.skipping c.in-Ok.head true) (anew a.octets.now) c.in-Ok.c1)
     ≡ attach_detach_answer (at (message identifier_of content attach_detach_format a.skipping) a.octets.now a.c)
 following c =
-    answer attach_detach_answer (elements_follow attach_detach_format c.args.skipping (by c.read_head-h.ensures (ap as_attach_detach_head c.in-Read.is)) (local_tail attach_detach_head-local) (by c.read_empty_table-e.ensures (ap as_moved c.in_default-e.is)) (by refl refl))
+    answer attach_detach_answer (elements_follow attach_detach_format c.args.skipping (from c.in-Ok.ensures) (local_tail attach_detach_head-local) (from c.in_default-e.ensures) (by refl refl))
     ∙ lent _ _ _
 
 -- each part, where it is read
-front_read : (c : In-To-v) → Gives (part attach_detach_table front false c.args.skipping 0) (anew c.args.octets.now) c.in-Read.c1 (placed c.scan_part-a.result.slots c.in-To-v.c3)
-front_read c = verdict_to slots_beside c.scan_part-a.ensures c.in-To-v.is
+front_read : (c : In-Ok-v) → Gives (part attach_detach_table front false c.args.skipping 0) (anew c.args.octets.now) c.in-Ok.c1 (placed c.scan_part-a.result.value c.in-Ok-v.c3)
+front_read c = verdict_to _ c.scan_part-a.ensures c.in-Ok-v.is
 
 -- its own slot: a list's slot is the same in a table and inside a structure
-slot_ensured : (c : After-read_downlinks_slot-d) → c.read_downlinks_slot-d.result ≡ downlinks_answer (at (downlinks_slot 7) (anew c.args.octets.now) c.in-To-v.c3)
+slot_ensured : (c : After-read_downlinks_slot-d) → c.read_downlinks_slot-d.result ≡ downlinks_answer (at (downlinks_slot 7) (anew c.args.octets.now) c.in-Ok-v.c3)
 slot_ensured c = rw (downlinks_slot_lem 7) c.read_downlinks_slot-d.ensures
 
-slot_read : (c : In-To-w) → Gives (downlinks_slot 7) (anew c.args.octets.now) c.in-To-v.c3 (placed c.read_downlinks_slot-d.result.list c.in-To-w.c4)
-slot_read c = verdict_to downlinks-beside (rw (downlinks_slot_lem 7) c.read_downlinks_slot-d.ensures) c.in-To-w.is
+slot_read : (c : In-Ok-w) → Gives (downlinks_slot 7) (anew c.args.octets.now) c.in-Ok-v.c3 (placed c.read_downlinks_slot-d.result.value c.in-Ok-w.c4)
+slot_read c =
+    let slot : c.read_downlinks_slot-d.result ≡ downlinks_answer (at (downlinks_slot 7) (anew c.args.octets.now) c.in-Ok-v.c3) = rw (downlinks_slot_lem 7) c.read_downlinks_slot-d.ensures in
+    verdict_to _ slot c.in-Ok-w.is
 
-back_read : (c : In-To-x) → Gives (part attach_detach_table back true c.args.skipping 3) (anew c.args.octets.now) c.in-To-w.c4 (placed c.scan_part-b.result.slots c.in-To-x.c6)
-back_read c = verdict_to slots_beside c.scan_part-b.ensures c.in-To-x.is
+back_read : (c : In-Ok-x) → Gives (part attach_detach_table back true c.args.skipping 3) (anew c.args.octets.now) c.in-Ok-w.c4 (placed c.scan_part-b.result.value c.in-Ok-x.c6)
+back_read c = verdict_to _ c.scan_part-b.ensures c.in-Ok-x.is
 
 -- the table, of its parts; and where it ends behind the list
-unfoldable whole : In-To-x → Fact
+unfoldable whole : In-Ok-x → Fact
 unfolding downlinks_slot
 whole c =
-    let slot : c.read_downlinks_slot-d.result ≡ downlinks_answer (at (downlinks_slot 7) (anew c.args.octets.now) c.in-To-v.c3) = rw (downlinks_slot_lem 7) c.read_downlinks_slot-d.ensures in
-    fact (all_read _ c.args.skipping (parts c.in-Read.head) (verdict_to slots_beside c.scan_part-a.ensures c.in-To-v.is) (verdict_to downlinks-beside slot c.in-To-w.is) (back_read c))
+    let slot : c.read_downlinks_slot-d.result ≡ downlinks_answer (at (downlinks_slot 7) (anew c.args.octets.now) c.in-Ok-v.c3) = rw (downlinks_slot_lem 7) c.read_downlinks_slot-d.ensures in
+    fact (all_read _ c.args.skipping (parts c.in-Ok.head) (verdict_to _ c.scan_part-a.ensures c.in-Ok-v.is) (verdict_to _ slot c.in-Ok-w.is) (back_read c))
 
-unfoldable closed : In-To-z → Fact
+unfoldable closed : In-Ok-z → Fact
 unfolding downlinks_slot
 closed c =
-    let slot : c.read_downlinks_slot-d.result ≡ downlinks_answer (at (downlinks_slot 7) (anew c.args.octets.now) c.in-To-v.c3) = rw (downlinks_slot_lem 7) c.read_downlinks_slot-d.ensures in
-    fact (all_read _ c.args.skipping (parts c.in-Read.head) (verdict_to slots_beside c.scan_part-a.ensures c.in-To-v.is) (verdict_to downlinks-beside slot c.in-To-w.is)
-    (part-ended _ _ _ _ (by c.read_closing_mbit-z.ensures (ap as_moved c.in-To-z.is))))
+    let slot : c.read_downlinks_slot-d.result ≡ downlinks_answer (at (downlinks_slot 7) (anew c.args.octets.now) c.in-Ok-v.c3) = rw (downlinks_slot_lem 7) c.read_downlinks_slot-d.ensures in
+    fact (all_read _ c.args.skipping (parts c.in-Ok.head) (verdict_to _ c.scan_part-a.ensures c.in-Ok-v.is) (verdict_to _ slot c.in-Ok-w.is)
+    (part-ended _ _ _ _ (from c.in-Ok-z.ensures)))
 
 pub returns-in_default : goal.returns-in_default
 returns-in_default c =
-    c.refused.ensures ∙ answer attach_detach_answer (no_head attach_detach_format c.args.skipping (by-refusal c.read_head-h.ensures (ap as_attach_detach_head c.in_default.is) c.refusal.ensures))
+    c.refused.ensures ∙ answer attach_detach_answer (no_head attach_detach_format c.args.skipping (refused_by c.read_head-h.ensures c.unwrap_err.ensures))
     ∙ lent _ _ _
 
 pub returns-in_default-v : goal.returns-in_default-v
 returns-in_default-v c =
-    c.refused-in_default-v.ensures ∙ answer attach_detach_answer (no_front_lem _ c.args.skipping (parts c.in-Read.head) (verdict_refused slots_beside c.scan_part-a.ensures (numbered c.in_default-v.is c.refusal-in_default-v.ensures)))
+    c.refused-in_default-v.ensures ∙ answer attach_detach_answer (no_front_lem _ c.args.skipping (parts c.in-Ok.head) (verdict_refused _ c.scan_part-a.ensures c.unwrap_err-in_default-v.ensures))
     ∙ following ((goal.at.returns-in_default-v c).In_default-e)
 
 pub returns-in_default-w : goal.returns-in_default-w
 unfolding downlinks_slot
 returns-in_default-w c =
-    c.refused-in_default-w.ensures ∙ answer attach_detach_answer (no_slot _ c.args.skipping (parts c.in-Read.head) (front_read ((goal.at.returns-in_default-w c).In-To-v))
-    (verdict_refused downlinks-beside (slot_ensured ((goal.at.returns-in_default-w c).After-read_downlinks_slot-d)) (numbered c.in_default-w.is c.refusal-in_default-w.ensures)))
+    c.refused-in_default-w.ensures ∙ answer attach_detach_answer (no_slot _ c.args.skipping (parts c.in-Ok.head) (front_read ((goal.at.returns-in_default-w c).In-Ok-v))
+    (verdict_refused _ (slot_ensured ((goal.at.returns-in_default-w c).After-read_downlinks_slot-d)) c.unwrap_err-in_default-w.ensures))
     ∙ following ((goal.at.returns-in_default-w c).In_default-e)
 
 pub returns-in_default-x : goal.returns-in_default-x
 unfolding downlinks_slot
 returns-in_default-x c =
-    c.refused-in_default-x.ensures ∙ answer attach_detach_answer (no_back _ c.args.skipping (parts c.in-Read.head) (front_read ((goal.at.returns-in_default-x c).In-To-v))
-    (slot_read ((goal.at.returns-in_default-x c).In-To-w)) (verdict_refused slots_beside c.scan_part-b.ensures (numbered c.in_default-x.is c.refusal-in_default-x.ensures)))
+    c.refused-in_default-x.ensures ∙ answer attach_detach_answer (no_back _ c.args.skipping (parts c.in-Ok.head) (front_read ((goal.at.returns-in_default-x c).In-Ok-v))
+    (slot_read ((goal.at.returns-in_default-x c).In-Ok-w)) (verdict_refused _ c.scan_part-b.ensures c.unwrap_err-in_default-x.ensures))
     ∙ following ((goal.at.returns-in_default-x c).In_default-e)
 
 pub overflow_add-result : goal.overflow_add-result
 unfolding whole
 overflow_add-result c =
-    let most = (whole ((goal.at.overflow_add-result c).In-To-x)).holds.most in
-    omega (arith)
+    let most = (whole ((goal.at.overflow_add-result c).In-Ok-x)).holds.most in
+    grind arith
 
 pub returns-in_default-z : goal.returns-in_default-z
 unfolding whole
-returns-in_default-z c = rw c.record_of.ensures (answer attach_detach_answer (whole ((goal.at.returns-in_default-z c).In-To-x)).holds.is ∙ following ((goal.at.returns-in_default-z c).In_default-e))
+returns-in_default-z c = rw c.record_of.ensures (answer attach_detach_answer (whole ((goal.at.returns-in_default-z c).In-Ok-x)).holds.is ∙ following ((goal.at.returns-in_default-z c).In_default-e))
 
 pub returns-in_default-e : goal.returns-in_default-e
 unfolding closed
 returns-in_default-e c =
-    let n = c.scan_part-a.result.slots.skipped in
+    let n = c.scan_part-a.result.value.skipped in
     let all : n + 0 ≡ n = omega arith in
-    rw (c.record_of-in_default-e.ensures, ← all) (answer attach_detach_answer (closed ((goal.at.returns-in_default-e c).In-To-z)).holds.is ∙ following ((goal.at.returns-in_default-e c).In_default-e))
+    rw (c.record_of-in_default-e.ensures, ← all) (answer attach_detach_answer (closed ((goal.at.returns-in_default-e c).In-Ok-z)).holds.is ∙ following ((goal.at.returns-in_default-e c).In_default-e))
 
 pub returns : goal.returns
 returns c =
-    rw (c.record_of-2.ensures, c.no_downlinks.ensures) (answer attach_detach_answer (none_follow attach_detach_format c.args.skipping (headed ((goal.at.returns c).In-Read)) (local_tail attach_detach_head-local) (by c.read_empty_table-e.ensures (ap as_moved c.in-To.is))) ∙ lent _ _ _)
+    rw (c.record_of-2.ensures, c.no_downlinks.ensures) (answer attach_detach_answer (none_follow attach_detach_format c.args.skipping (headed ((goal.at.returns c).In-Ok)) (local_tail attach_detach_head-local) (from c.in-Ok-e.ensures)) ∙ lent _ _ _)

@@ -1,29 +1,29 @@
 -- `messages::d_location_update_accept::DLocationUpdateAccept::from_bitbuf` meets its contract: the head, then the elements or none.
 use mathlib.Core.Path.{refl, ap, ◌∙◌}
 use Rattle.bits.specs.ReaderLaws.{local_tail}
-use Rattle.bits.specs.Placed.{placed, as_moved}
-use Rattle.bits.specs.PlacedLaws.{Gives, by, by-refusal}
+use Rattle.bits.specs.Placed.{placed}
+use Rattle.bits.specs.PlacedLaws.{Gives, by, from, refused_by}
 use Rattle.elements.proofs.Verdicts.{answer}
 use Rattle.messages.specs.Accept.{accept_head}
 use Rattle.messages.specs.Calls.{accept_format}
 use Rattle.messages.proofs.AcceptLaws.{accept_head-local}
 use Rattle.messages.proofs.PlacedMessages.{no_head, elements_follow, none_follow}
-use Rattle.messages.specs.MessageAnswers.{as_accept_head, accept_answer}
+use Rattle.messages.specs.MessageAnswers.{accept_answer}
 use Rattle.messages.proofs.d_location_update_accept.DLocationUpdateAccept.from_bitbuf.Goals as goal
-use Rattle.messages.proofs.d_location_update_accept.DLocationUpdateAccept.from_bitbuf.Goals.{In-Read}
+use Rattle.messages.proofs.d_location_update_accept.DLocationUpdateAccept.from_bitbuf.Goals.{In-Ok}
 
 -- the head
-headed : (c : In-Read) → let a = c.args in Gives accept_head a.octets.now a.c (placed c.in-Read.head c.in-Read.c1)
-headed c = by c.read_head-h.ensures (ap as_accept_head c.in-Read.is)
+headed : (c : In-Ok) → let a = c.args in Gives accept_head a.octets.now a.c (placed c.in-Ok.head c.in-Ok.c1)
+headed c = from c.in-Ok.ensures
 
 pub returns-in_default : goal.returns-in_default
 returns-in_default c =
-    c.refused.ensures ∙ answer accept_answer (no_head accept_format c.args.skipping (by-refusal c.read_head-h.ensures (ap as_accept_head c.in_default.is) c.refusal.ensures))
+    c.refused.ensures ∙ answer accept_answer (no_head accept_format c.args.skipping (refused_by c.read_head-h.ensures c.unwrap_err.ensures))
 
 pub returns-in_default-e : goal.returns-in_default-e
 returns-in_default-e c =
-    c.read_elements.ensures ∙ answer accept_answer (elements_follow accept_format c.args.skipping (headed ((goal.at.returns-in_default-e c).In-Read)) (local_tail accept_head-local) (by c.read_empty_table-e.ensures (ap as_moved c.in_default-e.is)) (by refl refl))
+    c.read_elements.ensures ∙ answer accept_answer (elements_follow accept_format c.args.skipping (headed ((goal.at.returns-in_default-e c).In-Ok)) (local_tail accept_head-local) (from c.in_default-e.ensures) (by refl refl))
 
 pub returns : goal.returns
 returns c =
-    rw (c.record_of.ensures, c.no_location_accept.ensures) (answer accept_answer (none_follow accept_format c.args.skipping (headed ((goal.at.returns c).In-Read)) (local_tail accept_head-local) (by c.read_empty_table-e.ensures (ap as_moved c.in-To.is))))
+    rw (c.record_of.ensures, c.no_location_accept.ensures) (answer accept_answer (none_follow accept_format c.args.skipping (headed ((goal.at.returns c).In-Ok)) (local_tail accept_head-local) (from c.in-Ok-e.ensures)))
