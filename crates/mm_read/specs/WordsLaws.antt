@@ -21,15 +21,6 @@ some_or n m false e h = grind arith
 pub place_or_len : (p : ℕ → Bool) (xs : List ℕ) → unwrap_or (position p xs) (length xs) ≡ position_or_len p xs
 place_or_len p xs = some_or _ _ _ refl (prefix_len-le-length (λ x. not (p x)) xs)
 
--- words are no longer than the text
-pub first_word_within : (s : List ℕ) → length (first_word s) ≤ length s
-unfolding first_word unblanked
-first_word_within s = simp (length-take, length-drop) (omega arith)
-
-pub after_word_within : (s : List ℕ) → length (after_word s) ≤ length s
-unfolding after_word unblanked
-after_word_within s = simp length-drop (omega arith)
-
 -- what `to_digit` gives
 some_below : (base n : ℕ) (o : Option ℕ) → SomeIff o (n < base) n → o ≡ cond (nat_lt n base) (Some n) None
 some_below base n None h = grind arith

@@ -1,14 +1,14 @@
 // A line as it comes in, character by character.
 ghost use Rattle.std.specs.Prelude.{◌≡◌, ℕ, ◌≤◌, List, [], take, IfOk};
+ghost use Rattle.mm_read.specs.declared.line.TheConstants.{LINE};
 ghost use Rattle.mm_read.specs.Lines.{kept, held_by, without_return};
 
 use crate::call::Fault;
 use crate::words::Text;
 use std::marker::Model;
-use std::num::wrapping_add_u64;
 
 // Room for a line and one character more: a line that fills it is too long.
-const LINE: usize = 16384;
+pub(crate) const LINE: usize = 16384;
 
 pub(crate) const NEWLINE: u8 = b'\n';
 
@@ -27,7 +27,7 @@ impl Model for Line {
 
     ghost view = { λ l. take l.count l.characters };
 
-    ghost invariant = { λ l. l.count ≤ 16384 };
+    ghost invariant = { λ l. l.count ≤ LINE };
 }
 
 // A line without the carriage return at its end.
@@ -71,7 +71,7 @@ impl Line {
 
     // Puts a character behind, if there is room.
     fn keep(&mut self, character: u8)
-        ensures { self.new ≡ kept 16384 self.old character }
+        ensures { self.new ≡ kept LINE self.old character }
     {
         if self.count < LINE {
             self.characters[self.count] = character;
@@ -81,11 +81,11 @@ impl Line {
 
     // Takes a character; a newline begins the next line.
     pub(crate) fn take(&mut self, character: u8)
-        ensures { self.new ≡ held_by 16384 self.old character }
+        ensures { self.new ≡ held_by LINE self.old character }
     {
         if character == NEWLINE {
             self.count = 0;
-            self.number = wrapping_add_u64(self.number, 1);
+            self.number = self.number.wrapping_add(1);
         } else {
             self.keep(character);
         }

@@ -10,8 +10,8 @@ mod words;
 ghost use Rattle.std.specs.Prelude.{◌≡◌, OnOk};
 ghost use Rattle.mm_read.specs.Lines.{held};
 
-use call::{Call, asked_by, octets_word};
-use line::{Line, NEWLINE};
+use call::{Call, Fault, asked_by, octets_word};
+use line::{LINE, Line, NEWLINE};
 use messages::read;
 use std::io;
 use std::io::Read;
@@ -31,25 +31,25 @@ fn answer_call(rt: &impl Print, number: u64, call: Call, hex: &Text) -> io::Resu
     )
 }
 
-fn answer_text(rt: &impl Print, number: u64, text: &Text) -> io::Result<()> {
-    match asked_by(text) {
-        Ok(Some(call)) => answer_call(rt, number, call, &octets_word(text)),
-        Ok(None) => Ok(()),
-        Err(fault) => show::unread(rt, number, fault),
-    }
+// The call that a line asks for, and the word that has its octets.
+fn asked(line: &Line) -> Result<Option<(Call, Text)>, Fault> {
+    let text = line.text()?;
+    let call = asked_by(&text)?;
+    Ok(call.map(|c| (c, octets_word(&text))))
 }
 
 fn answer(rt: &impl Print, line: &Line) -> io::Result<()> {
     let number = line.number();
-    match line.text() {
-        Ok(text) => answer_text(rt, number, &text),
+    match asked(line) {
+        Ok(Some((call, hex))) => answer_call(rt, number, call, &hex),
+        Ok(None) => Ok(()),
         Err(fault) => show::unread(rt, number, fault),
     }
 }
 
 // Answers each line that ends in a piece of the input.
 fn take_piece(rt: &impl Print, line: &mut Line, piece: &[u8]) -> io::Result<()>
-    ensures { OnOk result (line.new ≡ held 16384 line.old piece.now) }
+    ensures { OnOk result (line.new ≡ held LINE line.old piece.now) }
 {
     for character in piece {
         if *character == NEWLINE {

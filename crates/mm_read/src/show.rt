@@ -224,13 +224,13 @@ fn groups<G: Group>(
 {
     field(rt, level, name, "present")?;
     field(rt, level + 1, "groups", count)?;
-    for (i, g) in (1..64).zip(list.iter().take(count)) {
+    for (i, g) in list.iter().take(count).enumerate() {
         let change = if g.is_attached() {
             "attachment"
         } else {
             "detachment"
         };
-        field(rt, level + 1, format_args!("group {i}"), change)?;
+        field(rt, level + 1, format_args!("group {}", i + 1), change)?;
         g.fields(rt, level + 2)?;
     }
     Ok(())
@@ -282,7 +282,7 @@ fn location_accept(rt: &impl Print, o: OptionalLocationAccept) -> io::Result<()>
     Ok(())
 }
 
-fn demand_head(rt: &impl Print, d: ULocationUpdateDemand) -> io::Result<()> {
+fn demand(rt: &impl Print, d: ULocationUpdateDemand) -> io::Result<()> {
     field(rt, 1, "location update type", d.location_update_type)?;
     field(rt, 1, "request to append LA", d.request_to_append_la)?;
     field(rt, 1, "cipher control", d.cipher_control)?;
@@ -317,11 +317,7 @@ fn demand_head(rt: &impl Print, d: ULocationUpdateDemand) -> io::Result<()> {
         d.address_extension
             .present
             .then_some(d.address_extension.value),
-    )
-}
-
-fn demand(rt: &impl Print, d: ULocationUpdateDemand) -> io::Result<()> {
-    demand_head(rt, d)?;
+    )?;
     location_demand(rt, d.group_identity_location_demand)?;
     type3(rt, "group report response", d.group_report_response)?;
     type3(rt, "authentication uplink", d.authentication_uplink)?;
@@ -329,7 +325,7 @@ fn demand(rt: &impl Print, d: ULocationUpdateDemand) -> io::Result<()> {
     type3(rt, "proprietary", d.proprietary)
 }
 
-fn accept_head(rt: &impl Print, a: DLocationUpdateAccept) -> io::Result<()> {
+fn accept(rt: &impl Print, a: DLocationUpdateAccept) -> io::Result<()> {
     field(
         rt,
         1,
@@ -361,11 +357,7 @@ fn accept_head(rt: &impl Print, a: DLocationUpdateAccept) -> io::Result<()> {
         a.scch_information_and_distribution_on_18th_frame
             .present
             .then_some(a.scch_information_and_distribution_on_18th_frame.value),
-    )
-}
-
-fn accept(rt: &impl Print, a: DLocationUpdateAccept) -> io::Result<()> {
-    accept_head(rt, a)?;
+    )?;
     type4(rt, "new registered area", a.new_registered_area)?;
     type3(rt, "security downlink", a.security_downlink)?;
     location_accept(rt, a.group_identity_location_accept)?;

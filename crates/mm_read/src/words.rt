@@ -1,11 +1,13 @@
 // The words of a line, and what they spell.
 ghost use Rattle.std.specs.Prelude.{◌≡◌, ℕ, ◌<◌, ◌≤◌, not, List, length, position, IfSome};
+ghost use Rattle.mm_read.specs.declared.line.TheConstants.{LINE};
 ghost use Rattle.mm_read.specs.Words.{is_blank, unblanked, first_word, after_word, no_word, octet_of, octets, decimal_of};
 
+use crate::line::LINE;
 use std::marker::Model;
 
 // The octets that a text writes at most.
-pub(crate) const OCTETS: usize = 8192;
+pub(crate) const OCTETS: usize = LINE / 2;
 
 // A text that is no longer than a line: a line, a word of it, or what stands behind a word.
 #[derive(Drop)]
@@ -18,7 +20,7 @@ impl<'a> Model for Text<'a> {
 
     ghost view = { λ t. t.characters.now };
 
-    ghost invariant = { λ t. length t.characters.now ≤ 16384 };
+    ghost invariant = { λ t. length t.characters.now ≤ LINE };
 }
 
 // Whether a character parts words.
