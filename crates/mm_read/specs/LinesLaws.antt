@@ -1,8 +1,8 @@
--- Steps of the functions that keep a line.
-use Rattle.std.specs.Prelude.{◌≡◌, ℕ, ◌+◌, ◌-◌, ◌<◌, ◌≤◌, List, [], ◌∷◌, length, take, drop, slice_index, slice_set, refl}
-use Rattle.std.proofs.Common.{◌∙◌, arith, lt-ltb, le-ltb, length-take, drop_of_length-le}
-use Rattle.mm_read.specs.Lines.{kept, held_by, held}
-use Rattle.mm_read.specs.WordsLaws.{from, take_more}
+-- Steps of the loop that keeps a line.
+use Rattle.std.specs.Prelude.{◌≡◌, ℕ, ◌+◌, ◌<◌, ◌≤◌, List, length, drop, slice_index}
+use Rattle.std.proofs.Common.{drop_of_length-le}
+use Rattle.mm_read.specs.Lines.{held_by, held}
+use Rattle.mm_read.specs.WordsLaws.{from}
 
 pub held_more : (room : ℕ) (xs piece : List ℕ) (i : ℕ) → i < length piece → held room xs (drop i piece) ≡ held room (held_by room xs (slice_index piece i)) (drop (i + 1) piece)
 unfolding held

@@ -1,5 +1,5 @@
 -- The words of a line, and what they spell. A text is the list of its characters' codes.
-use Rattle.std.specs.Prelude.{◌≡◌, ℕ, ◌+◌, ◌*◌, ◌^◌, ◌≤◌, Bool, cond, ◌||◌, not, List, [], ◌∷◌, length, take, drop, ◌==◌, nat_lt, Option, None, Some}
+use Rattle.std.specs.Prelude.{ℕ, ◌+◌, ◌*◌, ◌^◌, Bool, cond, ◌||◌, not, List, [], ◌∷◌, length, take, drop, ◌==◌, nat_lt, Option, None, Some}
 use Rattle.std.specs.Char.{digit_value}
 use Rattle.std.specs.List.{position_or_len}
 use Rattle.std.specs.Option.{option_and_then, unwrap_or}

@@ -1,9 +1,9 @@
 -- Steps of a loop over a text: what the definitions of `Words` say of the text from a place on.
-use Rattle.std.specs.Prelude.{◌≡◌, ℕ, ◌+◌, ◌-◌, ◌*◌, ◌^◌, ◌<◌, ◌≤◌, Bool, true, false, cond, not, List, [], ◌∷◌, ◌++◌, length, take, drop, slice_index, slice_set, nat_lt, Option, None, Some, SomeIff, refl}
+use Rattle.std.specs.Prelude.{◌≡◌, ℕ, ◌+◌, ◌-◌, ◌*◌, ◌/◌, ◌^◌, ◌<◌, ◌≤◌, Bool, true, false, cond, not, List, [], ◌∷◌, ◌++◌, length, take, drop, slice_index, slice_set, nat_lt, Option, None, Some, SomeIff, refl}
 use Rattle.std.specs.Char.{digit_value}
 use Rattle.std.specs.List.{position, position_or_len}
 use Rattle.std.specs.Option.{unwrap_or, option_and_then}
-use Rattle.std.proofs.Common.{sym, ap, ◌∙◌, append_assoc, append-nil, add-one, length-take, length-drop, drop_of_length-le, drop-cons, take-suc-set, take_all}
+use Rattle.std.proofs.Common.{sym, ap, ◌∙◌, append_assoc, append-nil, add-one, length-drop, drop_of_length-le, drop-cons, take-suc-set, take_all}
 use Rattle.std.proofs.lemmas.List.Sums.{prefix_len-le-length}
 use native.Mathlib.Omega.{arith}
 use borrow.Author.Tests.{lt-ltb, le-ltb}
@@ -73,38 +73,31 @@ pub octet_is : (x y h l : ℕ) → h ≡ unwrap_or (digit_of 16 x) 0 → l ≡ u
 unfolding octet_of
 octet_is x y h l p q = rw (p, q) refl
 
-octets-cons : (x y : ℕ) (xs : List ℕ) → octets (x ∷ y ∷ xs) ≡ octet_of x y ∷ octets xs
+octets_end : (xs : List ℕ) → length xs < 2 → octets xs ≡ []
 unfolding octets
-octets-cons x y xs = refl
-
-pub octets-more : (s : List ℕ) (i : ℕ) → 2 * i + 1 < length s → octets (drop (2 * i) s) ≡ octet_of (slice_index s (2 * i)) (slice_index s (2 * i + 1)) ∷ octets (drop (2 * (i + 1)) s)
-octets-more s i h =
-    let e : 2 * (i + 1) ≡ 2 * i + 1 + 1 = omega arith in
-    rw (e, from s (2 * i) (omega arith), from s (2 * i + 1) h, octets-cons) refl
-
-octets-short : (xs : List ℕ) → length xs ≤ 1 → octets xs ≡ []
-unfolding octets
-octets-short [] h = refl
-octets-short (x ∷ []) h = refl
-octets-short (x ∷ y ∷ xs) h = absurd (omega arith)
-
-pub octets-ends : (s : List ℕ) (i : ℕ) → length s ≤ 2 * i + 1 → octets (drop (2 * i) s) ≡ []
-octets-ends s i h = octets-short (drop (2 * i) s) (rw length-drop (omega arith))
-
-pub take_more : (out : List ℕ) (i x : ℕ) → i < length out → take (i + 1) (slice_set out i x) ≡ take i out ++ (x ∷ [])
-take_more out i x h = rw (add-one, take-suc-set out i x h)
+octets_end [] h = refl
+octets_end (x ∷ []) h = refl
+octets_end (x ∷ y ∷ xs) h = absurd (omega arith)
 
 -- the first octets are put, and one more
-pub octets-put : (s out : List ℕ) (i x : ℕ) → i < length out → 2 * i + 1 < length s → x ≡ octet_of (slice_index s (2 * i)) (slice_index s (2 * i + 1))
-    → octets s ≡ take i out ++ octets (drop (2 * i) s) → octets s ≡ take (i + 1) (slice_set out i x) ++ octets (drop (2 * (i + 1)) s)
-octets-put s out i x h k e p =
-    let m : take i out ++ octets (drop (2 * i) s) ≡ take (i + 1) (slice_set out i x) ++ octets (drop (2 * (i + 1)) s) =
-    rw (take_more out i x h, append_assoc, octets-more s i k, e) in
-    p ∙ m
+octets_put : (s out pair rest : List ℕ) (i x : ℕ) → length pair ≡ 2 → i < length out → x ≡ octet_of (slice_index pair 0) (slice_index pair 1)
+    → octets s ≡ take i out ++ octets (pair ++ rest) → octets s ≡ take (i + 1) (slice_set out i x) ++ octets rest
+unfolding octets
+octets_put s out (y ∷ z ∷ []) rest i x e h q p = rw (add-one, take-suc-set out i x h, append_assoc, q) p
+octets_put s out [] rest i x e h q p = absurd (omega arith)
+octets_put s out (y ∷ []) rest i x e h q p = absurd (omega arith)
+octets_put s out (y ∷ z ∷ w ∷ ws) rest i x e h q p = absurd (omega arith)
+
+pub octets_more : (s out all pair rest : List ℕ) (i j k x : ℕ) → all ≡ pair ++ rest → length pair ≡ 2 → j ≡ i → k ≡ i + 1 → i < length out → x ≡ octet_of (slice_index pair 0) (slice_index pair 1)
+    → octets s ≡ take i out ++ octets all → octets s ≡ take k (slice_set out j x) ++ octets rest
+octets_more s out all pair rest i j k x a e f g h q p =
+    rw (f, g) (octets_put s out pair rest i x e h q (p ∙ ap (λ xs. take i out ++ octets xs) a))
 
 -- all are put
-pub octets-done : (s out : List ℕ) (i : ℕ) → length s ≤ 2 * i + 1 → octets s ≡ take i out ++ octets (drop (2 * i) s) → take i out ≡ octets s
-octets-done s out i h p = sym (p ∙ (rw (octets-ends s i h, append-nil)))
+pub octets_done : (s out rest : List ℕ) (i : ℕ) → length rest < 2 → 2 * i + length rest ≡ length s → octets s ≡ take i out ++ octets rest → take (length s / 2) out ≡ octets s
+octets_done s out rest i h e p =
+    let n : length s / 2 ≡ i = omega arith in
+    rw n (sym (p ∙ (rw (octets_end rest h, append-nil))))
 
 -- PARTS OF A TEXT
 pub unblanked_is : (s t : List ℕ) (o : Option ℕ) (n : ℕ) → s ≡ t → o ≡ position (λ x. not (is_blank x)) s → n ≡ unwrap_or o (length s) → take (length s - n) (drop n s) ≡ unblanked t

@@ -201,6 +201,6 @@ pub(crate) fn asked_by(line: &Text) -> Result<Option<Call>, Fault>
 {
     match line.first_word().characters {
         [] | [b'#', ..] => Ok(None),
-        _ => Ok(Some(call_of(line)?)),
+        _ => call_of(line).map(Some),
     }
 }

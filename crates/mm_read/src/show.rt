@@ -15,6 +15,7 @@ use messages::u_location_update_demand::ULocationUpdateDemand;
 use messages::{ACCEPT, DEMAND, Reading, Record, Verdict};
 use std::{fmt, io};
 
+// A line of a field.
 fn field(
     rt: &impl Print,
     level: u8,
@@ -425,8 +426,7 @@ fn meaning(refusal: u8) -> &'static str {
 
 // The answer of a call.
 pub(crate) fn reading(rt: &impl Print, message: u64, r: Reading) -> io::Result<()> {
-    let v = r.verdict;
-    match v {
+    match r.verdict {
         Verdict::Accepted => {
             record(rt, message, r.record)?;
             field(rt, 1, "bits consumed", r.consumed)?;

@@ -55,7 +55,7 @@ impl<'a> Text<'a> {
         }
     }
 
-    // The first word; empty if there is none.
+    // The first word; empty if there is none: an `Option` would be opened again once the words are counted.
     pub(crate) fn first_word(&self) -> Text<'a>
         ensures { result ≡ first_word self.now }
     {
@@ -99,11 +99,10 @@ pub(crate) fn put_octets<'a>(hex: &Text, out: &'a mut [u8; OCTETS]) -> &'a [u8]
     ensures { result.now ≡ octets hex.now }
 {
     let digits = hex.characters;
-    let n = digits.len() / 2;
-    for i in 0..n {
-        out[i] = octet(digits[2 * i], digits[2 * i + 1]);
+    for (i, pair) in digits.chunks_exact(2).enumerate() {
+        out[i] = octet(pair[0], pair[1]);
     }
-    &out[..n]
+    &out[..digits.len() / 2]
 }
 
 // The number that decimal digits write, if it fits 64 bits.

@@ -1,4 +1,4 @@
-use Rattle.std.proofs.Common.{◌≡◌, ◌+◌, ◌*◌, sym, ◌∙◌, refl, arith, rules}
+use Rattle.std.proofs.Common.{◌≡◌, ◌+◌, ◌*◌, ◌∙◌, refl, arith, rules}
 use Rattle.mm_read.specs.WordsLaws.{decimal_more, decimal_ends, decimal_fits, decimal_stops, decimal_overflows, digit_is}
 use Rattle.mm_read.proofs.words.decimal_of.Goals as goal
 
