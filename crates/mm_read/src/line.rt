@@ -1,5 +1,5 @@
 // A line as it comes in, character by character.
-ghost use Rattle.std.specs.Prelude.{◌≡◌, ℕ, ◌≤◌, List, [], take, IfOk};
+ghost use Rattle.std.specs.Prelude.{◌≡◌, ℕ, ◌≤◌, List, [], length, take, ◌==◌, IfOk};
 ghost use Rattle.mm_read.specs.declared.line.TheConstants.{LINE};
 ghost use Rattle.mm_read.specs.Lines.{kept, held_by, without_return};
 
@@ -11,8 +11,6 @@ use std::marker::Model;
 pub(crate) const LINE: usize = 16384;
 
 pub(crate) const NEWLINE: u8 = b'\n';
-
-const RETURN: u8 = b'\r';
 
 // What has come of a line, and the line's number.
 #[derive(Drop)]
@@ -34,7 +32,7 @@ impl Model for Line {
 fn without_return(line: &[u8]) -> &[u8]
     ensures { result.now ≡ without_return line.now }
 {
-    line.strip_suffix([RETURN].as_slice()).unwrap_or(line)
+    line.strip_suffix(b"\r".as_slice()).unwrap_or(line)
 }
 
 impl Line {
@@ -53,7 +51,9 @@ impl Line {
         self.number
     }
 
-    pub(crate) fn is_empty(&self) -> bool {
+    pub(crate) fn is_empty(&self) -> bool
+        ensures { result ≡ (length self.now == 0) }
+    {
         self.count == 0
     }
 

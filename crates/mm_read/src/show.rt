@@ -1,4 +1,5 @@
 // What is printed: a heading, and below it a line `name: value` for each field, deeper ones further in.
+// What a record may lack is there a flag beside a value, as the C interface needs it.
 ghost use Rattle.std.specs.Prelude.{◌≤◌};
 
 use crate::call::{Call, Fault};
@@ -213,7 +214,7 @@ impl Group for GroupIdentityDownlink {
     }
 }
 
-// The first `count` groups of a list.
+// The first `count` groups of a list, which the C interface keeps whole.
 fn groups<G: Group>(
     rt: &impl Print,
     level: u8,
@@ -409,7 +410,7 @@ fn record(rt: &impl Print, message: u64, held: Record) -> io::Result<()> {
     }
 }
 
-// The refusals, as document 01's questions have them.
+// The refusals, as document 01's questions have them; `Verdict` gives their numbers.
 fn meaning(refusal: u8) -> &'static str {
     match refusal {
         1 =>
