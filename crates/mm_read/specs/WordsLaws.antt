@@ -66,12 +66,9 @@ unfolding decimal_of
 decimal_overflows s n d i h e g p = rw (p, decimal_more n d s i h e, too_large _ _ g) refl
 
 -- OCTETS
+-- what `to_digit` gives, or 0
 pub digit_or_0 : (x y d : ℕ) (o : Option ℕ) → y ≡ x → SomeIff o (digit_value y < 16) (digit_value y) → d ≡ unwrap_or o 0 → d ≡ unwrap_or (digit_of 16 x) 0
 digit_or_0 x y d o e h q = q ∙ ap (λ p. unwrap_or p 0) (digit_is 16 x y o o e h refl)
-
-pub octet_is : (x y h l : ℕ) → h ≡ unwrap_or (digit_of 16 x) 0 → l ≡ unwrap_or (digit_of 16 y) 0 → 16 * h + l ≡ octet_of x y
-unfolding octet_of
-octet_is x y h l p q = rw (p, q) refl
 
 octets_end : (xs : List ℕ) → length xs < 2 → octets xs ≡ []
 unfolding octets

@@ -1,5 +1,5 @@
 // A line as it comes in, character by character.
-ghost use Rattle.std.specs.Prelude.{◌≡◌, ℕ, ◌≤◌, List, [], length, take, ◌==◌, IfOk};
+ghost use Rattle.std.specs.Prelude.{◌≡◌, ℕ, ◌<◌, ◌≤◌, ◌↔◌, List, [], length, take, ◌==◌, IfOk, IsOk};
 ghost use Rattle.mm_read.specs.declared.line.TheConstants.{LINE};
 ghost use Rattle.mm_read.specs.Lines.{kept, held_by, without_return};
 
@@ -59,7 +59,8 @@ impl Line {
 
     // The line without the carriage return at its end.
     pub(crate) fn text(&self) -> Result<Text, Fault>
-        ensures { IfOk result (λ t. t ≡ without_return self.now) }
+        ensures fits { IsOk result ↔ (length self.now < LINE) }
+        ensures text { IfOk result (λ t. t ≡ without_return self.now) }
     {
         if self.count == LINE {
             return Err(Fault::LineTooLong);
