@@ -26,8 +26,8 @@ some_below : (base n : ℕ) (o : Option ℕ) → SomeIff o (n < base) n → o �
 some_below base n None h = grind arith
 some_below base n (Some d) h = rw (lt-ltb _ _ h.0, h.1) refl
 
-pub digit_is : (base x y : ℕ) (o p : Option ℕ) → y ≡ x → SomeIff o (digit_value y < base) (digit_value y) → o ≡ p → p ≡ digit_of base x
-digit_is base x y o p e h q = sym q ∙ some_below base (digit_value y) o h ∙ ap (digit_of base) e
+pub digit_is : (base x y : ℕ) (o : Option ℕ) → y ≡ x → SomeIff o (digit_value y < base) (digit_value y) → o ≡ digit_of base x
+digit_is base x y o e h = some_below base (digit_value y) o h ∙ ap (digit_of base) e
 
 -- DECIMAL NUMBERS
 decimal_cons : (n x : ℕ) (xs : List ℕ) → decimal_from n (x ∷ xs) ≡ option_and_then (λ d. decimal_from (10 * n + d) xs) (digit_of 10 x)
@@ -66,10 +66,6 @@ unfolding decimal_of
 decimal_overflows s n d i h e g p = rw (p, decimal_more n d s i h e, too_large _ _ g) refl
 
 -- OCTETS
--- what `to_digit` gives, or 0
-pub digit_or_0 : (x y d : ℕ) (o : Option ℕ) → y ≡ x → SomeIff o (digit_value y < 16) (digit_value y) → d ≡ unwrap_or o 0 → d ≡ unwrap_or (digit_of 16 x) 0
-digit_or_0 x y d o e h q = q ∙ ap (λ p. unwrap_or p 0) (digit_is 16 x y o o e h refl)
-
 octets_end : (xs : List ℕ) → length xs < 2 → octets xs ≡ []
 unfolding octets
 octets_end [] h = refl

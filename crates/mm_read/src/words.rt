@@ -1,7 +1,7 @@
 // The words of a line, and what they spell.
 ghost use Rattle.std.specs.Prelude.{◌≡◌, ℕ, ◌<◌, ◌≤◌, not, List, length, position, IfSome};
 ghost use Rattle.mm_read.specs.declared.line.TheConstants.{LINE};
-ghost use Rattle.mm_read.specs.Words.{is_blank, unblanked, first_word, after_word, no_word, octet_of, octets, decimal_of};
+ghost use Rattle.mm_read.specs.Words.{is_blank, unblanked, first_word, after_word, no_word, digit_of, octet_of, octets, decimal_of};
 
 use crate::line::LINE;
 use std::marker::Model;
@@ -85,12 +85,22 @@ impl<'a> Text<'a> {
     }
 }
 
+// A digit's value in a base.
+fn digit(character: u8, base: u32) -> Option<u32>
+    requires from_two { 2 ≤ base }
+    requires to_36 { base ≤ 36 }
+    ensures value { result ≡ digit_of base character }
+    ensures below { IfSome result (λ d. d < base) }
+{
+    char::from(character).to_digit(base)
+}
+
 // The octet that two hexadecimal digits write.
 fn octet(high: u8, low: u8) -> u8
     ensures { result ≡ octet_of high low }
 {
-    let high = char::from(high).to_digit(16).unwrap_or(0);
-    let low = char::from(low).to_digit(16).unwrap_or(0);
+    let high = digit(high, 16).unwrap_or(0);
+    let low = digit(low, 16).unwrap_or(0);
     (16 * high + low) as u8
 }
 
@@ -111,8 +121,8 @@ pub(crate) fn decimal_of(digits: &[u8]) -> Option<u64>
 {
     let mut n = 0u64;
     for c in digits {
-        let digit = char::from(*c).to_digit(10)?;
-        n = n.checked_mul(10)?.checked_add(u64::from(digit))?;
+        let d = digit(*c, 10)?;
+        n = n.checked_mul(10)?.checked_add(u64::from(d))?;
     }
     Some(n)
 }
