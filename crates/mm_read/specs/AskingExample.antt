@@ -1,6 +1,6 @@
 -- A line that asks for a call: ` demand<tab>skipping 26aF 3 12`.
 use Rattle.std.specs.Prelude.{◌≡◌, ℕ, Some, Ok, List, [], ◌∷◌, ◌++◌, codes, refl}
-use Rattle.mm_read.specs.Words.{first_word, after_word, octet_of, octets, decimal_from, decimal_of}
+use Rattle.mm_read.specs.Words.{first_word, after_word, octets, decimal_from, decimal_of}
 use Rattle.mm_read.specs.Asking.{octets_word, asked_of}
 
 abbrev line : List ℕ
@@ -11,5 +11,5 @@ unfolding first_word after_word decimal_of decimal_from
 its_call = refl
 
 pub its_octets : octets (octets_word line) ≡ 38 ∷ 175 ∷ []
-unfolding octets octet_of first_word after_word
+unfolding octets first_word after_word
 its_octets = refl

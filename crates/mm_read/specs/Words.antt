@@ -29,7 +29,7 @@ abbrev pub digit_of : ℕ → ℕ → Option ℕ
 digit_of base x = cond (nat_lt (digit_value x) base) (Some (digit_value x)) None
 
 -- the octet that two hexadecimal digits write; another character counts 0
-unfoldable pub octet_of : ℕ → ℕ → ℕ
+abbrev pub octet_of : ℕ → ℕ → ℕ
 octet_of high low = 16 * unwrap_or (digit_of 16 high) 0 + unwrap_or (digit_of 16 low) 0
 
 -- the octets that hexadecimal digits write, two by two
