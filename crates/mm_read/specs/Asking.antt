@@ -1,106 +1,75 @@
 -- What a line asks for: message, reading, octets in hexadecimal, and if wanted the window's first and end bit.
-use Rattle.std.specs.Prelude.{ℕ, ◌*◌, ◌%◌, Bool, true, cond, List, [], ◌∷◌, length, ◌==◌}
-use Rattle.mm_read.specs.Words.{first_word, after_word, same, all_digits, decimal_of}
-use Rattle.mm_read.specs.declared.words.Decimal.{Decimal}
-use Rattle.mm_read.specs.declared.words.Decimal.TheVariants as decimal
+use Rattle.std.specs.Prelude.{ℕ, ◌*◌, ◌%◌, Bool, true, cond, List, [], ◌∷◌, length, ◌==◌, Option, None, Some, Result, Ok, Err, codes}
+use Rattle.std.specs.Char.{is_ascii_digit, is_ascii_hexdigit}
+use Rattle.std.specs.List.{list_all}
+use Rattle.std.specs.Option.{ok_or}
+use Rattle.std.specs.Str.{bytes_eq}
+use Rattle.mm_read.specs.Words.{first_word, after_word, no_word, decimal_of}
+use Rattle.mm_read.specs.declared.call.Call.{Call}
 use Rattle.mm_read.specs.declared.call.Fault.{Fault}
 use Rattle.mm_read.specs.declared.call.Fault.TheVariants.{WordsMissing, EndMissing, WordsExtra, MessageUnknown, ReadingUnknown, DigitsBad, DigitsOdd, BitUnknown, NumberTooLarge}
-use Rattle.mm_read.specs.declared.call.Number.{Number}
-use Rattle.mm_read.specs.declared.call.Number.TheVariants.{Value, Unread}
-use Rattle.mm_read.specs.declared.call.Asked.{Asked}
-use Rattle.mm_read.specs.declared.call.Asked.TheVariants as asked
-
--- what keeps a number from being read
-abbrev pub fault_of : Number → Fault
-fault_of (Value n) = NumberTooLarge
-fault_of (Unread f) = f
-
--- a number that fits 64 bits, or the fault that it is too large
-abbrev pub fits : Decimal → Number
-fits (decimal.Value n) = Value n
-fits decimal.TooLarge = Unread NumberTooLarge
 
 -- a decimal number; a word with another character is the fault `bad`
-unfoldable pub number_of : Fault → List ℕ → Number
-number_of bad xs = cond (all_digits 10 xs) (fits (decimal_of xs)) (Unread bad)
-
--- the words demand, accept, attach, strict, skipping
-abbrev pub demand_word : List ℕ
-demand_word = 100 ∷ 101 ∷ 109 ∷ 97 ∷ 110 ∷ 100 ∷ []
-
-abbrev pub accept_word : List ℕ
-accept_word = 97 ∷ 99 ∷ 99 ∷ 101 ∷ 112 ∷ 116 ∷ []
-
-abbrev pub attach_word : List ℕ
-attach_word = 97 ∷ 116 ∷ 116 ∷ 97 ∷ 99 ∷ 104 ∷ []
-
-abbrev pub strict_word : List ℕ
-strict_word = 115 ∷ 116 ∷ 114 ∷ 105 ∷ 99 ∷ 116 ∷ []
-
-abbrev pub skipping_word : List ℕ
-skipping_word = 115 ∷ 107 ∷ 105 ∷ 112 ∷ 112 ∷ 105 ∷ 110 ∷ 103 ∷ []
+abbrev pub number_of : Fault → List ℕ → Result ℕ Fault
+number_of bad xs = cond (list_all is_ascii_digit xs) (ok_or (decimal_of xs) NumberTooLarge) (Err bad)
 
 -- a message's type number: a name, or the number itself
-unfoldable pub message_of : List ℕ → Number
+abbrev pub message_of : List ℕ → Result ℕ Fault
 message_of w =
-    cond (same w demand_word) (Value 2)
-    (cond (same w accept_word) (Value 5) (cond (same w attach_word) (Value 10) (number_of MessageUnknown w)))
+    cond (bytes_eq w (codes "demand")) (Ok 2)
+    (cond (bytes_eq w (codes "accept")) (Ok 5) (cond (bytes_eq w (codes "attach")) (Ok 10) (number_of MessageUnknown w)))
 
 -- 0 for strict, 1 for skipping
-unfoldable pub reading_of : List ℕ → Number
-reading_of w = cond (same w strict_word) (Value 0) (cond (same w skipping_word) (Value 1) (Unread ReadingUnknown))
+abbrev pub reading_of : List ℕ → Result ℕ Fault
+reading_of w = cond (bytes_eq w (codes "strict")) (Ok 0) (cond (bytes_eq w (codes "skipping")) (Ok 1) (Err ReadingUnknown))
 
 -- how many bits the octets have that hexadecimal digits write: 4 for each digit
-unfoldable pub bits_of : List ℕ → Number
+abbrev pub bits_of : List ℕ → Result ℕ Fault
 bits_of hex =
-    cond (all_digits 16 hex) (cond (length hex % 2 == 0) (Value (4 * length hex)) (Unread DigitsOdd)) (Unread DigitsBad)
+    cond (list_all is_ascii_hexdigit hex) (cond (length hex % 2 == 0) (Ok (4 * length hex)) (Err DigitsOdd)) (Err DigitsBad)
 
 -- a bit of the window, which has a value where no word names it
-unfoldable pub bit_of : List ℕ → ℕ → Number
-bit_of w otherwise = cond (length w == 0) (Value otherwise) (number_of BitUnknown w)
+abbrev pub bit_of : List ℕ → ℕ → Result ℕ Fault
+bit_of w otherwise = cond (length w == 0) (Ok otherwise) (number_of BitUnknown w)
 
--- no word is left
-abbrev pub no_word : List ℕ → Bool
-no_word xs = length (first_word xs) == 0
-
--- from the third word on there are one or three words; 0 if so
-unfoldable pub shape_of : List ℕ → Number
+-- from the third word on there are one or three words
+abbrev pub shape_of : List ℕ → Result (Unit {0}) Fault
 shape_of third =
-    cond (no_word third) (Unread WordsMissing)
-    (cond (no_word (after_word third)) (Value 0)
-    (cond (no_word (after_word (after_word third))) (Unread EndMissing)
-    (cond (no_word (after_word (after_word (after_word third)))) (Value 0) (Unread WordsExtra))))
+    cond (no_word third) (Err WordsMissing)
+    (cond (no_word (after_word third)) (Ok tt)
+    (cond (no_word (after_word (after_word third))) (Err EndMissing)
+    (cond (no_word (after_word (after_word (after_word third)))) (Ok tt) (Err WordsExtra))))
 
 -- a line with this first word is empty, or a comment, which begins with #
-unfoldable pub passed_over : List ℕ → Bool
+abbrev pub passed_over : List ℕ → Bool
 passed_over [] = true
 passed_over (x ∷ xs) = x == 35
 
--- goes on with a number, or ends with what keeps it from being read
-abbrev pub with_number : Number → (ℕ → Asked) → Asked
-with_number (Value n) k = k n
-with_number (Unread f) k = asked.Unread f
+-- goes on with what was read, or ends with what keeps it from being read
+abbrev pub and_then : {A B : Type 0} → Result A Fault → (A → Result B Fault) → Result B Fault
+and_then (Ok x) k = k x
+and_then (Err f) k = Err f
 
 -- the third word: the octets
-unfoldable pub octets_word : List ℕ → List ℕ
+abbrev pub octets_word : List ℕ → List ℕ
 octets_word line = first_word (after_word (after_word line))
 
 -- the call, where message and reading are known and the third word comes next; the window is all bits if none is named
-unfoldable pub window_of : ℕ → ℕ → List ℕ → Asked
+abbrev pub window_of : ℕ → ℕ → List ℕ → Result Call Fault
 window_of message wanted third =
-    with_number (bits_of (first_word third)) (λ bits.
-    with_number (bit_of (first_word (after_word third)) 0) (λ first.
-    with_number (bit_of (first_word (after_word (after_word third))) bits) (λ end.
-    asked.Call (record { message = message; wanted = wanted; first = first; end = end }))))
+    and_then (bits_of (first_word third)) (λ bits.
+    and_then (bit_of (first_word (after_word third)) 0) (λ first.
+    and_then (bit_of (first_word (after_word (after_word third))) bits) (λ end.
+    Ok (record { message = message; wanted = wanted; first = first; end = end }))))
 
 -- the call that a line with a first word asks for
-unfoldable pub call_of : List ℕ → Asked
+abbrev pub call_of : List ℕ → Result Call Fault
 call_of line =
-    with_number (shape_of (after_word (after_word line))) (λ _.
-    with_number (message_of (first_word line)) (λ message.
-    with_number (reading_of (first_word (after_word line))) (λ wanted.
+    and_then (shape_of (after_word (after_word line))) (λ _.
+    and_then (message_of (first_word line)) (λ message.
+    and_then (reading_of (first_word (after_word line))) (λ wanted.
     window_of message wanted (after_word (after_word line)))))
 
 -- what a line asks for
-unfoldable pub asked_of : List ℕ → Asked
-asked_of line = cond (passed_over (first_word line)) asked.Nothing (call_of line)
+abbrev pub asked_of : List ℕ → Result (Option Call) Fault
+asked_of line = cond (passed_over (first_word line)) (Ok None) (and_then (call_of line) (λ call. Ok (Some call)))

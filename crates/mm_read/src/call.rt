@@ -1,12 +1,15 @@
 // What a line asks for.
-ghost use Rattle.std.specs.Prelude.{◌≡◌, ◌≤◌, length};
-ghost use Rattle.mm_read.specs.Asking.{fault_of, number_of, message_of, reading_of, bits_of, bit_of, shape_of, passed_over, octets_word, window_of, call_of, asked_of};
+ghost use Rattle.std.specs.Prelude.{◌≡◌};
+ghost use Rattle.std.specs.Char.{is_ascii_digit, is_ascii_hexdigit};
+ghost use Rattle.std.specs.List.{list_all};
+ghost use Rattle.mm_read.specs.Asking.{number_of, message_of, reading_of, bits_of, bit_of, shape_of, octets_word, window_of, call_of, asked_of};
 
-use crate::words::{Decimal, after_word, are_digits, decimal_of, first_word, is_same};
+use crate::words::{Text, decimal_of};
 use messages::{ACCEPT, ATTACH_DETACH, DEMAND, SKIPPING, STRICT};
+use std::fmt;
 
 // What keeps a line from being a call.
-#[derive(Clone, Copy)]
+#[derive(Clone, Copy, Debug, PartialEq, Eq)]
 pub(crate) enum Fault {
     LineTooLong,
     WordsMissing,
@@ -20,25 +23,24 @@ pub(crate) enum Fault {
     NumberTooLarge,
 }
 
-// A word that was read as a number, or why it was not.
-#[derive(Clone, Copy)]
-pub(crate) enum Number {
-    Value(u64),
-    Unread(Fault),
-}
-
-impl Number {
-    fn fault(self) -> Fault
-        ensures { result ≡ fault_of self }
-    {
-        match self {
-            Number::Value(_) => Fault::NumberTooLarge,
-            Number::Unread(f) => f,
-        }
+impl fmt::Display for Fault {
+    fn fmt<W: fmt::Write>(&self, f: &mut fmt::Formatter<W>) -> fmt::Result {
+        f.write_str(match self {
+            Fault::LineTooLong => "the line is longer than 16383 characters",
+            Fault::WordsMissing => "fewer than three words: message, reading, octets",
+            Fault::EndMissing => "a first bit and no end bit",
+            Fault::WordsExtra => "more than five words",
+            Fault::MessageUnknown => "the message is not demand, accept, attach or a number",
+            Fault::ReadingUnknown => "the reading is not strict or skipping",
+            Fault::DigitsBad => "the octets have a character that is not a hexadecimal digit",
+            Fault::DigitsOdd => "the octets have an odd number of hexadecimal digits",
+            Fault::BitUnknown => "the first or end bit is not a decimal number",
+            Fault::NumberTooLarge => "a number is above 18446744073709551615",
+        })
     }
 }
 
-// A reading call but for its octets.
+// A reading call but for its octets. Message and reading stay numbers: `messages::read` takes them, and a line can name any message.
 #[derive(Clone, Copy)]
 pub(crate) struct Call {
     pub(crate) message: u64,
@@ -47,171 +49,158 @@ pub(crate) struct Call {
     pub(crate) end: usize,
 }
 
-// What a line is: passed over, unreadable, or a call.
-#[derive(Clone, Copy)]
-pub(crate) enum Asked {
-    Nothing,
-    Unread(Fault),
-    Call(Call),
+// `demand, strict, window 0 to 10`.
+impl fmt::Display for Call {
+    fn fmt<W: fmt::Write>(&self, f: &mut fmt::Formatter<W>) -> fmt::Result {
+        match self.message {
+            DEMAND => write!(f, "demand")?,
+            ACCEPT => write!(f, "accept")?,
+            ATTACH_DETACH => write!(f, "attach")?,
+            n => write!(f, "message {n}")?,
+        }
+        let reading = if self.wanted == STRICT {
+            "strict"
+        } else {
+            "skipping"
+        };
+        write!(f, ", {reading}, window {} to {}", self.first, self.end)
+    }
+}
+
+fn are_decimal(characters: &[u8]) -> bool
+    ensures { result ≡ list_all is_ascii_digit characters.now }
+{
+    characters.iter().all(|c| c.is_ascii_digit())
+}
+
+fn are_hexadecimal(characters: &[u8]) -> bool
+    ensures { result ≡ list_all is_ascii_hexdigit characters.now }
+{
+    characters.iter().all(|c| c.is_ascii_hexdigit())
 }
 
 // A decimal number; `bad` is what a word of other characters is.
-fn number_of(word: &[u8], bad: Fault) -> Number
+fn number_of(word: &[u8], bad: Fault) -> Result<u64, Fault>
     ensures { result ≡ number_of bad word.now }
 {
-    if are_digits(word, 10) {
-        let d = decimal_of(word);
-        let Decimal::Value(n) = d else {
-            return Number::Unread(Fault::NumberTooLarge);
-        };
-        return Number::Value(n);
+    if !are_decimal(word) {
+        return Err(bad);
     }
-    Number::Unread(bad)
+    decimal_of(word).ok_or(Fault::NumberTooLarge)
 }
 
 // A message's type number.
-fn message_of(word: &[u8]) -> Number
+fn message_of(word: &[u8]) -> Result<u64, Fault>
     ensures { result ≡ message_of word.now }
 {
-    if is_same(word, b"demand") {
-        return Number::Value(DEMAND);
+    if word == b"demand".as_slice() {
+        Ok(DEMAND)
+    } else if word == b"accept".as_slice() {
+        Ok(ACCEPT)
+    } else if word == b"attach".as_slice() {
+        Ok(ATTACH_DETACH)
+    } else {
+        number_of(word, Fault::MessageUnknown)
     }
-    if is_same(word, b"accept") {
-        return Number::Value(ACCEPT);
-    }
-    if is_same(word, b"attach") {
-        return Number::Value(ATTACH_DETACH);
-    }
-    number_of(word, Fault::MessageUnknown)
 }
 
-fn reading_of(word: &[u8]) -> Number
+fn reading_of(word: &[u8]) -> Result<u64, Fault>
     ensures { result ≡ reading_of word.now }
 {
-    if is_same(word, b"strict") {
-        return Number::Value(STRICT);
+    if word == b"strict".as_slice() {
+        Ok(STRICT)
+    } else if word == b"skipping".as_slice() {
+        Ok(SKIPPING)
+    } else {
+        Err(Fault::ReadingUnknown)
     }
-    if is_same(word, b"skipping") {
-        return Number::Value(SKIPPING);
-    }
-    Number::Unread(Fault::ReadingUnknown)
 }
 
 // The bits of octets in hexadecimal.
-fn bits_of(hex: &[u8]) -> Number
-    requires { length hex.now ≤ 16384 }
+fn bits_of(hex: &Text) -> Result<u64, Fault>
     ensures { result ≡ bits_of hex.now }
 {
-    if are_digits(hex, 16) {
-        if hex.len() % 2 == 0 {
-            return Number::Value(4 * (hex.len() as u64));
-        }
-        return Number::Unread(Fault::DigitsOdd);
+    let digits = hex.characters;
+    if !are_hexadecimal(digits) {
+        return Err(Fault::DigitsBad);
     }
-    Number::Unread(Fault::DigitsBad)
+    if digits.len() % 2 != 0 {
+        return Err(Fault::DigitsOdd);
+    }
+    Ok(4 * (digits.len() as u64))
 }
 
 // A bit of the window, which has a value where the line names none.
-fn bit_of(word: &[u8], otherwise: u64) -> Number
+fn bit_of(word: &[u8], otherwise: u64) -> Result<u64, Fault>
     ensures { result ≡ bit_of word.now otherwise }
 {
-    if word.len() == 0 {
-        return Number::Value(otherwise);
+    if word.is_empty() {
+        return Ok(otherwise);
     }
     number_of(word, Fault::BitUnknown)
 }
 
-// Whether the third word is there, and behind it none or two; 0 if so.
-fn shape_of(third: &[u8]) -> Number
+// Whether the third word is there, and behind it none or two.
+fn shape_of(third: &Text) -> Result<(), Fault>
     ensures { result ≡ shape_of third.now }
 {
-    if first_word(third).len() == 0 {
-        return Number::Unread(Fault::WordsMissing);
+    if third.is_blank() {
+        return Err(Fault::WordsMissing);
     }
-    let fourth = after_word(third);
-    if first_word(fourth).len() == 0 {
-        return Number::Value(0);
+    let fourth = third.after_word();
+    if fourth.is_blank() {
+        return Ok(());
     }
-    let fifth = after_word(fourth);
-    if first_word(fifth).len() == 0 {
-        return Number::Unread(Fault::EndMissing);
+    let fifth = fourth.after_word();
+    if fifth.is_blank() {
+        return Err(Fault::EndMissing);
     }
-    if first_word(after_word(fifth)).len() == 0 {
-        return Number::Value(0);
+    if fifth.after_word().is_blank() {
+        return Ok(());
     }
-    Number::Unread(Fault::WordsExtra)
-}
-
-// Whether a line with this first word asks for nothing: it is empty or a comment.
-fn is_passed_over(word: &[u8]) -> bool
-    ensures { result ≡ passed_over word.now }
-{
-    if word.len() == 0 {
-        return true;
-    }
-    word[0] == b'#'
+    Err(Fault::WordsExtra)
 }
 
 // The word that has the octets.
-pub(crate) fn octets_word(line: &[u8]) -> &[u8]
-    ensures { result.now ≡ octets_word line.now }
+pub(crate) fn octets_word<'a>(line: &Text<'a>) -> Text<'a>
+    ensures { result ≡ octets_word line.now }
 {
-    first_word(after_word(after_word(line)))
+    line.after_word().after_word().first_word()
 }
 
 // The window of a call whose message and reading are known; `third` starts with the octets.
-fn window_of(message: u64, wanted: u64, third: &[u8]) -> Asked
-    requires { length third.now ≤ 16384 }
+fn window_of(message: u64, wanted: u64, third: &Text) -> Result<Call, Fault>
     ensures { result ≡ window_of message wanted third.now }
 {
-    let b = bits_of(first_word(third));
-    let Number::Value(bits) = b else {
-        return Asked::Unread(b.fault());
-    };
-    let fourth = after_word(third);
-    let f = bit_of(first_word(fourth), 0);
-    let Number::Value(first) = f else {
-        return Asked::Unread(f.fault());
-    };
-    let e = bit_of(first_word(after_word(fourth)), bits);
-    let Number::Value(end) = e else {
-        return Asked::Unread(e.fault());
-    };
-    Asked::Call(Call {
-        message: message,
-        wanted: wanted,
+    let bits = bits_of(&third.first_word())?;
+    let fourth = third.after_word();
+    let first = bit_of(fourth.first_word().characters, 0)?;
+    let end = bit_of(fourth.after_word().first_word().characters, bits)?;
+    Ok(Call {
+        message,
+        wanted,
         first: first as usize,
         end: end as usize,
     })
 }
 
-fn call_of(line: &[u8]) -> Asked
-    requires { length line.now ≤ 16384 }
+fn call_of(line: &Text) -> Result<Call, Fault>
     ensures { result ≡ call_of line.now }
 {
-    let second = after_word(line);
-    let third = after_word(second);
-    let s = shape_of(third);
-    let Number::Value(_) = s else {
-        return Asked::Unread(s.fault());
-    };
-    let m = message_of(first_word(line));
-    let Number::Value(message) = m else {
-        return Asked::Unread(m.fault());
-    };
-    let w = reading_of(first_word(second));
-    let Number::Value(wanted) = w else {
-        return Asked::Unread(w.fault());
-    };
-    window_of(message, wanted, third)
+    let second = line.after_word();
+    let third = second.after_word();
+    shape_of(&third)?;
+    let message = message_of(line.first_word().characters)?;
+    let wanted = reading_of(second.first_word().characters)?;
+    window_of(message, wanted, &third)
 }
 
-pub(crate) fn asked_by(line: &[u8]) -> Asked
-    requires { length line.now ≤ 16384 }
+// The call that a line asks for; an empty line and a comment ask for none.
+pub(crate) fn asked_by(line: &Text) -> Result<Option<Call>, Fault>
     ensures { result ≡ asked_of line.now }
 {
-    if is_passed_over(first_word(line)) {
-        return Asked::Nothing;
+    match line.first_word().characters {
+        [] | [b'#', ..] => Ok(None),
+        _ => call_of(line).map(Some),
     }
-    call_of(line)
 }

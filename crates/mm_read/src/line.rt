@@ -1,36 +1,94 @@
 // A line as it comes in, character by character.
-ghost use Rattle.std.specs.Prelude.{◌≡◌, length, take};
-ghost use Rattle.mm_read.specs.Lines.{kept, without_return};
+ghost use Rattle.std.specs.Prelude.{◌≡◌, ℕ, ◌<◌, ◌≤◌, ◌↔◌, List, [], length, take, ◌==◌, IfOk, IsOk};
+ghost use Rattle.mm_read.specs.declared.line.TheConstants.{LINE};
+ghost use Rattle.mm_read.specs.Lines.{kept, held_by, without_return};
 
-const RETURN: u8 = 13;
+use crate::call::Fault;
+use crate::words::Text;
+use std::marker::Model;
 
-// How much of a line has come, and the line's number.
-#[derive(Clone, Copy)]
-pub(crate) struct Held {
-    pub(crate) count: usize,
-    pub(crate) number: u64,
+// Room for a line and one character more: a line that fills it is too long.
+pub(crate) const LINE: usize = 16384;
+
+pub(crate) const NEWLINE: u8 = b'\n';
+
+// What has come of a line, and the line's number.
+#[derive(Drop)]
+pub(crate) struct Line {
+    characters: [u8; LINE],
+    count: usize,
+    number: u64,
 }
 
-// Puts a character behind the first `count`, if there is room.
-pub(crate) fn keep(line: &mut [u8], count: usize, character: u8) -> usize
-    ensures { take result line.new ≡ kept (length line.old) (take count line.old) character }
-{
-    if count < line.len() {
-        line[count] = character;
-        return count + 1;
-    }
-    count
+impl Model for Line {
+    ghost Value = { List ℕ };
+
+    ghost view = { λ l. take l.count l.characters };
+
+    ghost invariant = { λ l. l.count ≤ LINE };
 }
 
 // A line without the carriage return at its end.
-pub(crate) fn without_return(line: &[u8]) -> &[u8]
+fn without_return(line: &[u8]) -> &[u8]
     ensures { result.now ≡ without_return line.now }
 {
-    if 0 < line.len() {
-        let last = line.len() - 1;
-        if line[last] == RETURN {
-            return &line[..last];
+    line.strip_suffix(b"\r".as_slice()).unwrap_or(line)
+}
+
+impl Line {
+    // The first line, of which nothing has come.
+    pub(crate) fn new() -> Line
+        ensures { result ≡ [] }
+    {
+        Line {
+            characters: [0; LINE],
+            count: 0,
+            number: 1,
         }
     }
-    line
+
+    pub(crate) fn number(&self) -> u64 {
+        self.number
+    }
+
+    pub(crate) fn is_empty(&self) -> bool
+        ensures { result ≡ (length self.now == 0) }
+    {
+        self.count == 0
+    }
+
+    // The line without the carriage return at its end.
+    pub(crate) fn text(&self) -> Result<Text, Fault>
+        ensures fits { IsOk result ↔ (length self.now < LINE) }
+        ensures text { IfOk result (λ t. t ≡ without_return self.now) }
+    {
+        if self.count == LINE {
+            return Err(Fault::LineTooLong);
+        }
+        Ok(Text {
+            characters: without_return(&self.characters[..self.count]),
+        })
+    }
+
+    // Puts a character behind, if there is room.
+    fn keep(&mut self, character: u8)
+        ensures { self.new ≡ kept LINE self.old character }
+    {
+        if self.count < LINE {
+            self.characters[self.count] = character;
+            self.count += 1;
+        }
+    }
+
+    // Takes a character; a newline begins the next line.
+    pub(crate) fn take(&mut self, character: u8)
+        ensures { self.new ≡ held_by LINE self.old character }
+    {
+        if character == NEWLINE {
+            self.count = 0;
+            self.number = self.number.wrapping_add(1);
+        } else {
+            self.keep(character);
+        }
+    }
 }

@@ -1,150 +1,128 @@
 // The words of a line, and what they spell.
-ghost use Rattle.std.specs.Prelude.{◌≡◌, ◌*◌, ◌≤◌, length, take};
-ghost use Rattle.mm_read.specs.Words.{IsPrefixLen, kind_of, run_of, unblanked, first_word, after_word, same, digit_of, all_digits, octet_of, octets, decimal_of};
+ghost use Rattle.std.specs.Prelude.{◌≡◌, ℕ, ◌<◌, ◌≤◌, not, List, length, position, IfSome};
+ghost use Rattle.mm_read.specs.declared.line.TheConstants.{LINE};
+ghost use Rattle.mm_read.specs.Words.{is_blank, unblanked, first_word, after_word, no_word, digit_of, octet_of, octets, decimal_of};
 
-const SPACE: u8 = 32;
+use crate::line::LINE;
+use std::marker::Model;
 
-const TAB: u8 = 9;
+// The octets that a text writes at most.
+pub(crate) const OCTETS: usize = LINE / 2;
 
-const BLANK: u8 = 1;
-
-const SOLID: u8 = 0;
-
-fn kind(character: u8) -> u8
-    ensures { result ≡ kind_of character }
-{
-    if character == SPACE {
-        return BLANK;
-    }
-    if character == TAB {
-        return BLANK;
-    }
-    SOLID
+// A text that is no longer than a line: a line, a word of it, or what stands behind a word.
+#[derive(Drop)]
+pub(crate) struct Text<'a> {
+    pub(crate) characters: &'a [u8],
 }
 
-// How many characters in front are of a kind.
-fn run(text: &[u8], wanted: u8) -> usize
-    ensures { result ≡ run_of wanted text.now }
+impl<'a> Model for Text<'a> {
+    ghost Value = { List ℕ };
+
+    ghost view = { λ t. t.characters.now };
+
+    ghost invariant = { λ t. length t.characters.now ≤ LINE };
+}
+
+// Whether a character parts words.
+fn is_blank(character: u8) -> bool
+    ensures { result ≡ is_blank character }
 {
-    let mut i: usize = 0;
-    while i < text.len() {
-        if kind(text[i]) != wanted {
-            return i;
+    matches!(character, b' ' | b'\t')
+}
+
+fn first_solid(text: &[u8]) -> Option<usize>
+    ensures place { result ≡ position (λ x. not (is_blank x)) text.now }
+    ensures within { IfSome result (λ i. i < length text.now) }
+{
+    text.iter().position(|c| !is_blank(*c))
+}
+
+fn first_blank(text: &[u8]) -> Option<usize>
+    ensures place { result ≡ position is_blank text.now }
+    ensures within { IfSome result (λ i. i < length text.now) }
+{
+    text.iter().position(|c| is_blank(*c))
+}
+
+impl<'a> Text<'a> {
+    fn after_blanks(&self) -> Text<'a>
+        ensures { result ≡ unblanked self.now }
+    {
+        let text = self.characters;
+        let start = first_solid(text).unwrap_or(text.len());
+        Text {
+            characters: &text[start..],
         }
-        i += 1;
     }
-    i
-}
 
-fn after_blanks(text: &[u8]) -> &[u8]
-    ensures { result.now ≡ unblanked text.now }
-{
-    let start = run(text, BLANK);
-    &text[start..]
-}
-
-// The first word; empty if there is none.
-pub(crate) fn first_word(text: &[u8]) -> &[u8]
-    ensures { result.now ≡ first_word text.now }
-{
-    let rest = after_blanks(text);
-    let end = run(rest, SOLID);
-    &rest[..end]
-}
-
-// What stands behind the first word.
-pub(crate) fn after_word(text: &[u8]) -> &[u8]
-    ensures { result.now ≡ after_word text.now }
-{
-    let rest = after_blanks(text);
-    let end = run(rest, SOLID);
-    &rest[end..]
-}
-
-pub(crate) fn is_same(a: &[u8], b: &[u8]) -> bool
-    ensures { result ≡ same a.now b.now }
-{
-    if a.len() != b.len() {
-        return false;
-    }
-    let mut i: usize = 0;
-    while i < a.len() {
-        if a[i] != b[i] {
-            return false;
+    // The first word; empty if there is none: an `Option` would be opened again once the words are counted.
+    pub(crate) fn first_word(&self) -> Text<'a>
+        ensures { result ≡ first_word self.now }
+    {
+        let rest = self.after_blanks().characters;
+        let end = first_blank(rest).unwrap_or(rest.len());
+        Text {
+            characters: &rest[..end],
         }
-        i += 1;
     }
-    true
-}
 
-// A digit's value, 16 for a character that is none.
-fn digit(character: u8) -> u8
-    ensures { result ≡ digit_of character }
-{
-    match character {
-        b'0'..=b'9' => character - b'0',
-        b'A'..=b'F' => character - b'A' + 10,
-        b'a'..=b'f' => character - b'a' + 10,
-        _ => 16,
+    // Whether no word is left.
+    pub(crate) fn is_blank(&self) -> bool
+        ensures { result ≡ no_word self.now }
+    {
+        self.first_word().characters.is_empty()
     }
-}
 
-// Whether each character is a digit of the base.
-pub(crate) fn are_digits(text: &[u8], base: u8) -> bool
-    ensures { result ≡ all_digits base text.now }
-{
-    let mut i: usize = 0;
-    while i < text.len() {
-        if base <= digit(text[i]) {
-            return false;
+    // What stands behind the first word.
+    pub(crate) fn after_word(&self) -> Text<'a>
+        ensures { result ≡ after_word self.now }
+    {
+        let rest = self.after_blanks().characters;
+        let end = first_blank(rest).unwrap_or(rest.len());
+        Text {
+            characters: &rest[end..],
         }
-        i += 1;
     }
-    true
+}
+
+// A digit's value in a base.
+fn digit(character: u8, base: u32) -> Option<u32>
+    requires from_two { 2 ≤ base }
+    requires to_36 { base ≤ 36 }
+    ensures value { result ≡ digit_of base character }
+    ensures below { IfSome result (λ d. d < base) }
+{
+    char::from(character).to_digit(base)
 }
 
 // The octet that two hexadecimal digits write.
 fn octet(high: u8, low: u8) -> u8
     ensures { result ≡ octet_of high low }
 {
-    16 * (digit(high) % 16) + digit(low) % 16
+    let high = digit(high, 16).unwrap_or(0);
+    let low = digit(low, 16).unwrap_or(0);
+    (16 * high + low) as u8
 }
 
-// Puts the octets that hexadecimal digits write, and gives their number.
-pub(crate) fn put_octets(hex: &[u8], out: &mut [u8]) -> usize
-    requires { length hex.now ≤ 2 * length out.old }
-    ensures prefix_len { IsPrefixLen result out.new }
-    ensures out_after { take result out.new ≡ octets hex.now }
+// Puts the octets that hexadecimal digits write in front of `out`, and gives them.
+pub(crate) fn put_octets<'a>(hex: &Text, out: &'a mut [u8; OCTETS]) -> &'a [u8]
+    ensures { result.now ≡ octets hex.now }
 {
-    let n = hex.len() / 2;
-    let mut i: usize = 0;
-    while i < n {
-        out[i] = octet(hex[2 * i], hex[2 * i + 1]);
-        i += 1;
+    let digits = hex.characters;
+    for (i, pair) in digits.chunks_exact(2).enumerate() {
+        out[i] = octet(pair[0], pair[1]);
     }
-    n
+    &out[..digits.len() / 2]
 }
 
-// A number in decimal, or that it is too large for 64 bits.
-#[derive(Clone, Copy)]
-pub(crate) enum Decimal {
-    Value(u64),
-    TooLarge,
-}
-
-// The number that decimal digits write.
-pub(crate) fn decimal_of(digits: &[u8]) -> Decimal
+// The number that decimal digits write, if it fits 64 bits.
+pub(crate) fn decimal_of(digits: &[u8]) -> Option<u64>
     ensures { result ≡ decimal_of digits.now }
 {
-    let mut n: u64 = 0;
-    let mut i: usize = 0;
-    while i < digits.len() {
-        let d = digit(digits[i]) as u64;
-        if (u64::MAX - d) / 10 < n {
-            return Decimal::TooLarge;
-        }
-        n = 10 * n + d;
-        i += 1;
+    let mut n = 0u64;
+    for c in digits {
+        let d = digit(*c, 10)?;
+        n = n.checked_mul(10)?.checked_add(u64::from(d))?;
     }
-    Decimal::Value(n)
+    Some(n)
 }

@@ -1,13 +1,9 @@
-use Rattle.std.proofs.Common.{sym, ◌∙◌, arith, rules}
-use Rattle.mm_read.specs.LinesLaws.{held-step, held-ends}
+use Rattle.std.proofs.Common.{sym, ◌∙◌, refl, rules}
+use Rattle.mm_read.specs.LinesLaws.{held_more, held-ends}
 use Rattle.mm_read.proofs.take_piece.Goals as goal
 
-pub loop-i-preserved : goal.loop-i-preserved
-loop-i-preserved g c = (
-  omega arith,
-  search rules,
-  c.loop-i.invariant.2 ∙ held-step _ _ _ _ _ _ c.loop-i-test.true c.loop-i.invariant.1 c.take_character-next.ensures,
-)
+pub loop-character-preserved : goal.loop-character-preserved
+loop-character-preserved g c = c.loop-character.invariant ∙ held_more _ _ c.args.piece.now _ c.loop-character-test.true ∙ rw c.take.ensures refl
 
 pub returns : goal.returns
-returns g c = sym (c.loop-i.invariant.2 ∙ held-ends _ _ _ _ c.loop-i-test.false)
+returns g c = sym (c.loop-character.invariant ∙ held-ends _ _ c.args.piece.now _ (search rules))

@@ -1,13 +1,21 @@
-use Rattle.std.proofs.Common.{◌≡◌, ◌/◌, length, take, subst, arith, rules}
+use Rattle.std.proofs.Common.{◌≡◌, ◌+◌, ◌∙◌, length, ap, length-append, arith, rules}
 use Rattle.mm_read.specs.Words.{octets}
-use Rattle.mm_read.specs.WordsLaws.{octets-put, octets-done}
+use Rattle.mm_read.specs.WordsLaws.{octets_more, octets_done}
 use Rattle.mm_read.proofs.words.put_octets.Goals as goal
 
 pub loop-i-preserved : goal.loop-i-preserved
 loop-i-preserved c =
-    (omega arith, search rules, octets-put _ _ _ _ (omega arith) (omega arith) c.octet.ensures c.loop-i.invariant.2)
+    let h = c.in-Some.ensures.steps in
+    let q = c.loop-i.invariant in
+    let n : length c.loop-i.i-iterator.iter.rest.now ≡ length c.in-Some.pair.now + length c.next.new.self.iter.rest.now = ap length h.0.1.0 ∙ length-append _ _ in
+    record {
+      pairs = h.0.0 ∙ q.pairs;
+      left = omega (arith, n, h.0.1.1, h.2, q.pairs, q.left);
+      put = octets_more _ c.loop-i.out _ _ _ _ _ _ _ h.0.1.0 (h.0.1.1 ∙ q.pairs) h.1 h.2 (omega (arith, n, h.0.1.1, q.pairs, q.left)) c.octet.ensures q.put;
+    }
 
-pub returns-clause-out_after : goal.returns-clause-out_after
-returns-clause-out_after c =
-    let e : c.loop-i.i ≡ length c.args.hex.now / 2 = omega (arith, c.loop-i.invariant.0) in
-    subst (λ n. take n c.loop-i.out ≡ octets c.args.hex.now) e (octets-done c.args.hex.now c.loop-i.out c.loop-i.i (omega arith) c.loop-i.invariant.2)
+pub returns : goal.returns
+returns c =
+    let h = c.in-None.ensures.steps in
+    let q = c.loop-i.invariant in
+    octets_done _ c.loop-i.out _ c.loop-i.i-iterator.count (omega (arith, h.0.1.0, q.pairs)) q.left q.put ∙ ap octets (search rules)

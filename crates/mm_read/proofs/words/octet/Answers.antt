@@ -1,6 +1,0 @@
-use Rattle.mm_read.specs.Words.{octet_of}
-use Rattle.mm_read.proofs.words.octet.Goals as goal
-
-pub returns : goal.returns
-unfolding octet_of
-returns c = cc
