@@ -40,7 +40,7 @@ impl fmt::Display for Hex<'_> {
     }
 }
 
-// Numbers of an octet, so that no place overflows.
+// Offset and width are octets, so that no place overflows, whatever they are.
 fn trial(rt: &impl Print, offset: u8, width: u8) -> io::Result<()> {
     let mut octets = filled(offset, width);
     let seed = u64::from(offset) * 65 + u64::from(width) + 1;

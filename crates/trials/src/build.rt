@@ -28,12 +28,10 @@ impl<const N: usize> Draft<N> {
 
     // The same in octets whose first 64 bits are not zeros.
     pub(crate) fn over(front: u64, message: u64, first: usize) -> Draft<N> {
-        let mut behind = Draft::new(message, 0);
-        behind.put(front, 64);
-        Draft {
-            octets: behind.octets,
-            ..Draft::new(message, first)
-        }
+        let mut m = Draft::new(message, 0);
+        m.put(front, 64);
+        m.place.at = first;
+        m
     }
 
     // The bit behind what is put together.
@@ -42,12 +40,9 @@ impl<const N: usize> Draft<N> {
     }
 
     // The same message, to be read up to one bit less.
-    pub(crate) fn short(self) -> Draft<N> {
-        let place = Cursor {
-            at: self.place.at.saturating_sub(1),
-            end: self.place.end,
-        };
-        Draft { place, ..self }
+    pub(crate) fn short(mut self) -> Draft<N> {
+        self.place.at = self.place.at.saturating_sub(1);
+        self
     }
 
     // A field. One that does not fit is left out, and the trial's line then shows it.

@@ -1,6 +1,4 @@
 // The line of a trial: the refusal's number, or the bits consumed, the count skipped and all that the record holds.
-ghost use Rattle.std.specs.Prelude.{◌≡◌};
-
 use crate::build::Message;
 use elements::class_of_ms::OptionalClassOfMs;
 use elements::energy_saving_information::OptionalEnergySavingInformation;
@@ -17,10 +15,10 @@ use std::fmt::Display;
 use std::io;
 use std::ops::Range;
 
-// Numbers, each with its label and whether it is present.
-fn numbers(rt: &impl Print, rows: &[(&str, bool, u64)]) -> io::Result<()> {
-    for (label, present, n) in rows {
-        if *present {
+// The numbers that are present, each behind its label.
+fn numbers(rt: &impl Print, rows: &[(&str, Option<u64>)]) -> io::Result<()> {
+    for (label, number) in rows {
+        if let Some(n) = number {
             print!(rt; " {label} {n}")?;
         }
     }
@@ -39,12 +37,10 @@ fn type3(rt: &impl Print, identifier: u8, g: OptionalType3) -> io::Result<()> {
 
 fn type4(rt: &impl Print, identifier: u8, g: OptionalType4) -> io::Result<()> {
     if g.present {
-        let element = g.value;
         print!(rt;
-            " | {identifier} length {} entries {}",
-            element.len, element.elems
+            " | {identifier} length {} entries {} data {:x}",
+            g.value.len, g.value.elems, g.value.data
         )?;
-        print!(rt; " data {:x}", element.data)?;
     }
     Ok(())
 }
@@ -93,11 +89,10 @@ fn energy_saving(rt: &impl Print, o: OptionalEnergySavingInformation) -> io::Res
         numbers(
             rt,
             &[
-                ("frame", frame.present, u64::from(frame.value)),
+                ("frame", frame.present.then_some(u64::from(frame.value))),
                 (
                     "multiframe",
-                    multiframe.present,
-                    u64::from(multiframe.value),
+                    multiframe.present.then_some(u64::from(multiframe.value)),
                 ),
             ],
         )?;
@@ -105,6 +100,7 @@ fn energy_saving(rt: &impl Print, o: OptionalEnergySavingInformation) -> io::Res
     Ok(())
 }
 
+// Uplink and downlink groups are two types of the library, so what both hold is written for each.
 fn uplink(rt: &impl Print, g: &GroupIdentityUplink) -> io::Result<()> {
     print!(rt; " |")?;
     numbers(
@@ -112,21 +108,21 @@ fn uplink(rt: &impl Print, g: &GroupIdentityUplink) -> io::Result<()> {
         &[
             (
                 "usage",
-                g.class_of_usage_present,
-                u64::from(g.class_of_usage),
+                g.class_of_usage_present
+                    .then_some(u64::from(g.class_of_usage)),
             ),
             (
                 "detachment",
-                g.group_identity_detachment_uplink_present,
-                u64::from(g.group_identity_detachment_uplink),
+                g.group_identity_detachment_uplink_present
+                    .then_some(u64::from(g.group_identity_detachment_uplink)),
             ),
-            ("gssi", g.gssi_present, u64::from(g.gssi)),
+            ("gssi", g.gssi_present.then_some(u64::from(g.gssi))),
             (
                 "extension",
-                g.address_extension_present,
-                u64::from(g.address_extension),
+                g.address_extension_present
+                    .then_some(u64::from(g.address_extension)),
             ),
-            ("vgssi", g.vgssi_present, u64::from(g.vgssi)),
+            ("vgssi", g.vgssi_present.then_some(u64::from(g.vgssi))),
         ],
     )
 }
@@ -140,22 +136,24 @@ fn downlink(rt: &impl Print, g: &GroupIdentityDownlink) -> io::Result<()> {
         &[
             (
                 "lifetime",
-                attached,
-                u64::from(attachment.group_identity_attachment_lifetime),
+                attached.then_some(u64::from(attachment.group_identity_attachment_lifetime)),
             ),
-            ("usage", attached, u64::from(attachment.class_of_usage)),
+            (
+                "usage",
+                attached.then_some(u64::from(attachment.class_of_usage)),
+            ),
             (
                 "detachment",
-                g.group_identity_detachment_uplink_present,
-                u64::from(g.group_identity_detachment_uplink),
+                g.group_identity_detachment_uplink_present
+                    .then_some(u64::from(g.group_identity_detachment_uplink)),
             ),
-            ("gssi", g.gssi_present, u64::from(g.gssi)),
+            ("gssi", g.gssi_present.then_some(u64::from(g.gssi))),
             (
                 "extension",
-                g.address_extension_present,
-                u64::from(g.address_extension),
+                g.address_extension_present
+                    .then_some(u64::from(g.address_extension)),
             ),
-            ("vgssi", g.vgssi_present, u64::from(g.vgssi)),
+            ("vgssi", g.vgssi_present.then_some(u64::from(g.vgssi))),
         ],
     )
 }
@@ -163,12 +161,16 @@ fn downlink(rt: &impl Print, g: &GroupIdentityDownlink) -> io::Result<()> {
 // The count, the first group and the last.
 fn list<P: Print, G, F: Fn(&P, &G) -> io::Result<()>>(
     rt: &P,
+    present: bool,
     count: usize,
     groups: &[G],
     one: F,
 ) -> io::Result<()>
     requires { F.IsAlwaysCallable one }
 {
+    if !present {
+        return Ok(());
+    }
     print!(rt; " | list {count}")?;
     let mut listed = groups.iter().take(count);
     if let Some(g) = listed.next() {
@@ -180,20 +182,6 @@ fn list<P: Print, G, F: Fn(&P, &G) -> io::Result<()>>(
     Ok(())
 }
 
-fn uplinks(rt: &impl Print, o: OptionalUplinks) -> io::Result<()> {
-    if o.present {
-        list(rt, o.count, &o.groups, uplink)?;
-    }
-    Ok(())
-}
-
-fn downlinks(rt: &impl Print, o: OptionalDownlinks) -> io::Result<()> {
-    if o.present {
-        list(rt, o.count, &o.groups, downlink)?;
-    }
-    Ok(())
-}
-
 fn location_demand(rt: &impl Print, o: OptionalLocationDemand) -> io::Result<()> {
     if o.present {
         let location = o.value;
@@ -201,7 +189,8 @@ fn location_demand(rt: &impl Print, o: OptionalLocationDemand) -> io::Result<()>
             " | location mode {}",
             location.group_identity_attach_detach_mode
         )?;
-        uplinks(rt, location.group_identity_uplink)?;
+        let l = location.group_identity_uplink;
+        list(rt, l.present, l.count, &l.groups, uplink)?;
     }
     Ok(())
 }
@@ -213,7 +202,8 @@ fn location_accept(rt: &impl Print, o: OptionalLocationAccept) -> io::Result<()>
             " | location accept/reject {}",
             location.group_identity_accept_reject
         )?;
-        downlinks(rt, location.group_identity_downlink)?;
+        let l = location.group_identity_downlink;
+        list(rt, l.present, l.count, &l.groups, downlink)?;
     }
     Ok(())
 }
@@ -225,19 +215,21 @@ fn demand(rt: &impl Print, d: ULocationUpdateDemand) -> io::Result<()> {
     let ssi = d.ssi;
     let extension = d.address_extension;
     print!(rt;
-        " update type {} append {}",
-        d.location_update_type, d.request_to_append_la
+        " update type {} append {} cipher {}",
+        d.location_update_type, d.request_to_append_la, d.cipher_control
     )?;
-    print!(rt; " cipher {}", d.cipher_control)?;
-    numbers(rt, &[("ciphering", ciphering.present, ciphering.value)])?;
+    numbers(
+        rt,
+        &[("ciphering", ciphering.present.then_some(ciphering.value))],
+    )?;
     class_of_ms(rt, d.class_of_ms)?;
     numbers(
         rt,
         &[
-            ("mode", mode.present, u64::from(mode.value)),
-            ("la", la.present, la.value),
-            ("ssi", ssi.present, ssi.value),
-            ("extension", extension.present, extension.value),
+            ("mode", mode.present.then_some(u64::from(mode.value))),
+            ("la", la.present.then_some(la.value)),
+            ("ssi", ssi.present.then_some(ssi.value)),
+            ("extension", extension.present.then_some(extension.value)),
         ],
     )?;
     location_demand(rt, d.group_identity_location_demand)?;
@@ -256,13 +248,13 @@ fn accept(rt: &impl Print, a: DLocationUpdateAccept) -> io::Result<()> {
     numbers(
         rt,
         &[
-            ("ssi", ssi.present, ssi.value),
-            ("extension", extension.present, extension.value),
-            ("subscriber", subscriber.present, subscriber.value),
+            ("ssi", ssi.present.then_some(ssi.value)),
+            ("extension", extension.present.then_some(extension.value)),
+            ("subscriber", subscriber.present.then_some(subscriber.value)),
         ],
     )?;
     energy_saving(rt, a.energy_saving_information)?;
-    numbers(rt, &[("scch", scch.present, scch.value)])?;
+    numbers(rt, &[("scch", scch.present.then_some(scch.value))])?;
     type4(rt, 2, a.new_registered_area)?;
     type3(rt, 3, a.security_downlink)?;
     location_accept(rt, a.group_identity_location_accept)?;
@@ -274,15 +266,15 @@ fn accept(rt: &impl Print, a: DLocationUpdateAccept) -> io::Result<()> {
 }
 
 fn attach_detach(rt: &impl Print, d: DAttachDetachGroupIdentity) -> io::Result<()> {
-    print!(rt; " report {}", d.group_identity_report)?;
+    let acknowledgement = d.group_identity_acknowledgement_request;
     print!(rt;
-        " acknowledgement {}",
-        d.group_identity_acknowledgement_request
+        " report {} acknowledgement {acknowledgement} mode {}",
+        d.group_identity_report, d.group_identity_attach_detach_mode
     )?;
-    print!(rt; " mode {}", d.group_identity_attach_detach_mode)?;
     type3(rt, 15, d.proprietary)?;
     type3(rt, 4, d.group_report_response)?;
-    downlinks(rt, d.group_identity_downlink)?;
+    let l = d.group_identity_downlink;
+    list(rt, l.present, l.count, &l.groups, downlink)?;
     type4(rt, 12, d.group_identity_security_related_information)
 }
 
@@ -294,7 +286,7 @@ fn record(rt: &impl Print, message: u64, held: Record) -> io::Result<()> {
     }
 }
 
-// One reading.
+// One reading. Message and reading are the library's numbers, since unknown ones are tried too.
 pub(crate) fn line(
     rt: &impl Print,
     name: impl Display + Drop,
