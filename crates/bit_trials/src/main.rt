@@ -2,14 +2,8 @@
 // and the number.
 #![tactic(auto)]
 
-ghost use Rattle.std.specs.Prelude.{◌≤◌};
-
 use bits::bitbuffer::{Cursor, Field, Moved};
-use std::io;
-
-fn wide(octet: u8) -> u64 {
-    octet as u64
-}
+use std::{array, fmt, io};
 
 fn stir(seed: u64) -> u64 {
     let a = seed ^ (seed << 13);
@@ -20,93 +14,60 @@ fn stir(seed: u64) -> u64 {
 }
 
 // The `width` lowest bits of a word.
-fn lowest(word: u64, width: usize) -> u64 {
-    if 64 <= width {
-        return word;
+fn lowest(word: u64, width: u8) -> u64 {
+    if width < 64 {
+        word % (1 << width)
+    } else {
+        word
     }
-    if width == 0 {
-        return 0;
-    }
-    let above = 64 - width;
-    (word << above) >> above
 }
 
 // The octets before the trial.
-fn filled(offset: usize, width: usize) -> [u8; 11]
-    requires { (offset ≤ 15) × (width ≤ 64) }
-{
-    let mut octets = [0u8; 11];
-    for i in 0..11 {
-        octets[i] = ((offset * 7 + width * 3 + i * 29) % 256) as u8;
-    }
-    octets
+fn filled(offset: u8, width: u8) -> [u8; 11] {
+    let front = usize::from(offset) * 7 + usize::from(width) * 3;
+    array::from_fn(|i| ((front + i * 29) % 256) as u8)
 }
 
-fn print_space(rt: &impl Print) -> io::Result<()> {
-    print!(rt; " ")
-}
+#[derive(Clone, Copy)]
+struct Hex<'a>(&'a [u8]);
 
-fn print_refusal(rt: &impl Print, number: u8) -> io::Result<()> {
-    print!(rt; "refused {number}")
-}
-
-fn print_octets(rt: &impl Print, octets: &[u8; 11]) -> io::Result<()> {
-    for i in 0..11 {
-        let octet = wide(octets[i]);
-        print!(rt; "{octet:02x}")?;
-    }
-    Ok(())
-}
-
-fn print_written(rt: &impl Print, moved: Moved, octets: &[u8; 11]) -> io::Result<()> {
-    match moved {
-        Moved::To(_) => print_octets(rt, octets),
-        Moved::Refused(n) => print_refusal(rt, n),
+impl fmt::Display for Hex<'_> {
+    fn fmt<W: fmt::Write>(&self, f: &mut fmt::Formatter<W>) -> fmt::Result {
+        for octet in self.0 {
+            write!(f, "{octet:02x}")?;
+        }
+        Ok(())
     }
 }
 
-fn print_read(rt: &impl Print, field: Field) -> io::Result<()> {
-    match field {
-        Field::Value(v, _) => print!(rt; "{v:016x}"),
-        Field::Refused(n) => print_refusal(rt, n),
-    }
-}
-
-fn trial(rt: &impl Print, offset: usize, width: usize) -> io::Result<()>
-    requires { (offset ≤ 15) × (width ≤ 64) }
-{
+// Offset and width are octets, so that no place overflows, whatever they are.
+fn trial(rt: &impl Print, offset: u8, width: u8) -> io::Result<()> {
     let mut octets = filled(offset, width);
-    let value = lowest(stir((offset * 65 + width + 1) as u64), width);
-    let to = Cursor {
-        at: offset,
-        end: 88,
-    };
+    let seed = u64::from(offset) * 65 + u64::from(width) + 1;
+    let value = lowest(stir(seed), width);
+    let at = usize::from(offset);
+    let width = usize::from(width);
+    let to = Cursor { at, end: 88 };
     let from = Cursor {
-        at: offset + 3,
+        at: at + 3,
         end: 88,
     };
-    let moved = to.write(&mut octets, value, width);
-    print!(rt; "{offset} {width}")?;
-    print_space(rt)?;
-    print_written(rt, moved, &octets)?;
-    print_space(rt)?;
-    print_read(rt, from.read(&octets, width))?;
-    println!(rt)
-}
-
-// Every width at one offset.
-fn trials(rt: &impl Print, offset: usize) -> io::Result<()>
-    requires { offset ≤ 15 }
-{
-    for width in 0..=64 {
-        trial(rt, offset, width)?;
+    print!(rt; "{offset} {width} ")?;
+    match to.write(&mut octets, value, width) {
+        Moved::To(_) => print!(rt; "{} ", Hex(&octets))?,
+        Moved::Refused(n) => print!(rt; "refused {n} ")?,
     }
-    Ok(())
+    match from.read(&octets, width) {
+        Field::Value(v, _) => println!(rt; "{v:016x}"),
+        Field::Refused(n) => println!(rt; "refused {n}"),
+    }
 }
 
 fn main(rt: HostRuntime) -> io::Result<()> {
     for offset in 0..16 {
-        trials(&rt, offset)?;
+        for width in 0..=64 {
+            trial(&rt, offset, width)?;
+        }
     }
     Ok(())
 }

@@ -12,10 +12,9 @@ mod windows;
 use std::io;
 
 fn main(rt: HostRuntime) -> io::Result<()> {
-    let mut octets = [0u8; 512];
-    lists::trials(&rt, &mut octets)?;
-    generics::trials(&rt, &mut octets)?;
-    whole::trials(&rt, &mut octets)?;
-    skipping::trials(&rt, &mut octets)?;
-    windows::trials(&rt, &mut octets)
+    lists::trials(&rt)?;
+    generics::trials(&rt)?;
+    whole::trials(&rt)?;
+    skipping::trials(&rt)?;
+    windows::trials(&rt)
 }

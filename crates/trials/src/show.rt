@@ -1,109 +1,81 @@
 // The line of a trial: the refusal's number, or the bits consumed, the count skipped and all that the record holds.
-use elements::class_of_ms::{ClassOfMs, OptionalClassOfMs};
+use crate::build::Message;
+use elements::class_of_ms::OptionalClassOfMs;
 use elements::energy_saving_information::OptionalEnergySavingInformation;
 use elements::group_identity_downlink::{GroupIdentityDownlink, OptionalDownlinks};
 use elements::group_identity_location_accept::OptionalLocationAccept;
 use elements::group_identity_location_demand::OptionalLocationDemand;
 use elements::group_identity_uplink::{GroupIdentityUplink, OptionalUplinks};
-use elements::typed_pdu_fields::{OptionalType3, OptionalType4, OptionalU8, OptionalU64};
+use elements::typed_pdu_fields::{OptionalType3, OptionalType4};
 use messages::d_attach_detach_group_identity::DAttachDetachGroupIdentity;
 use messages::d_location_update_accept::DLocationUpdateAccept;
 use messages::u_location_update_demand::ULocationUpdateDemand;
 use messages::{ACCEPT, DEMAND, Record, SKIPPING, STRICT, Verdict, read};
+use std::fmt::Display;
 use std::io;
+use std::ops::Range;
 
-pub(crate) fn text(rt: &impl Print, words: &[u8]) -> io::Result<()> {
-    rt.write_all(words)
-}
-
-pub(crate) fn number(rt: &impl Print, label: &[u8], n: u64) -> io::Result<()> {
-    text(rt, b" ")?;
-    text(rt, label)?;
-    text(rt, b" ")?;
-    rt.print(n)
-}
-
-pub(crate) fn hex(rt: &impl Print, label: &[u8], n: u64) -> io::Result<()> {
-    text(rt, b" ")?;
-    text(rt, label)?;
-    text(rt, b" ")?;
-    print!(rt; "{n:x}")
-}
-
-fn number_if(rt: &impl Print, label: &[u8], present: bool, n: u64) -> io::Result<()> {
-    if present {
-        number(rt, label, n)?;
+// The numbers that are present, each behind its label.
+fn numbers(rt: &impl Print, rows: &[(&str, Option<u64>)]) -> io::Result<()> {
+    for (label, number) in rows {
+        if let Some(n) = number {
+            print!(rt; " {label} {n}")?;
+        }
     }
     Ok(())
 }
 
-fn optional_u64(rt: &impl Print, label: &[u8], n: OptionalU64) -> io::Result<()> {
-    number_if(rt, label, n.present, n.value)
-}
-
-fn optional_u8(rt: &impl Print, label: &[u8], n: OptionalU8) -> io::Result<()> {
-    number_if(rt, label, n.present, n.value as u64)
-}
-
-fn type3(rt: &impl Print, label: &[u8], g: OptionalType3) -> io::Result<()> {
+fn type3(rt: &impl Print, identifier: u8, g: OptionalType3) -> io::Result<()> {
     if g.present {
-        let element = g.value;
-        text(rt, b" |")?;
-        number(rt, label, element.len as u64)?;
-        hex(rt, b"data", element.data)?;
+        print!(rt;
+            " | {identifier} length {} data {:x}",
+            g.value.len, g.value.data
+        )?;
     }
     Ok(())
 }
 
-fn type4(rt: &impl Print, label: &[u8], g: OptionalType4) -> io::Result<()> {
+fn type4(rt: &impl Print, identifier: u8, g: OptionalType4) -> io::Result<()> {
     if g.present {
-        let element = g.value;
-        text(rt, b" |")?;
-        number(rt, label, element.len as u64)?;
-        number(rt, b"entries", element.elems as u64)?;
-        hex(rt, b"data", element.data)?;
+        print!(rt;
+            " | {identifier} length {} entries {} data {:x}",
+            g.value.len, g.value.elems, g.value.data
+        )?;
     }
     Ok(())
 }
 
 // The 22 fields in order, a digit each.
-fn class_fields(rt: &impl Print, k: ClassOfMs) -> io::Result<()> {
-    digit(rt, k.freq_simplex_duplex)?;
-    digit(rt, k.multislot_phase_mod)?;
-    digit(rt, k.concurrent_multicarrier)?;
-    digit(rt, k.voice)?;
-    digit(rt, k.e2e_encryption_not_supported)?;
-    digit(rt, k.circuit_mode_data)?;
-    digit(rt, k.tetra_packet_data)?;
-    digit(rt, k.fast_switching)?;
-    digit(rt, k.dck_encryption)?;
-    digit(rt, k.clch_needed)?;
-    digit(rt, k.concurrent_circuit_mode)?;
-    more_class_fields(rt, k)
-}
-
-fn more_class_fields(rt: &impl Print, k: ClassOfMs) -> io::Result<()> {
-    digit(rt, k.original_advanced_link)?;
-    digit(rt, k.minimum_mode)?;
-    digit(rt, k.carrier_specific_signalling)?;
-    digit(rt, k.authentication)?;
-    digit(rt, k.sck_encryption)?;
-    digit(rt, k.air_interface_version)?;
-    digit(rt, k.common_scch)?;
-    digit(rt, k.reserved_21)?;
-    digit(rt, k.mac_d_blck)?;
-    digit(rt, k.extended_advanced_link)?;
-    digit(rt, k.d8psk)
-}
-
-fn digit(rt: &impl Print, n: u8) -> io::Result<()> {
-    rt.print(n)
-}
-
 fn class_of_ms(rt: &impl Print, o: OptionalClassOfMs) -> io::Result<()> {
     if o.present {
-        text(rt, b" class ")?;
-        class_fields(rt, o.value)?;
+        let k = o.value;
+        print!(rt; " class ")?;
+        for digit in &[
+            k.freq_simplex_duplex,
+            k.multislot_phase_mod,
+            k.concurrent_multicarrier,
+            k.voice,
+            k.e2e_encryption_not_supported,
+            k.circuit_mode_data,
+            k.tetra_packet_data,
+            k.fast_switching,
+            k.dck_encryption,
+            k.clch_needed,
+            k.concurrent_circuit_mode,
+            k.original_advanced_link,
+            k.minimum_mode,
+            k.carrier_specific_signalling,
+            k.authentication,
+            k.sck_encryption,
+            k.air_interface_version,
+            k.common_scch,
+            k.reserved_21,
+            k.mac_d_blck,
+            k.extended_advanced_link,
+            k.d8psk,
+        ] {
+            print!(rt; "{digit}")?;
+        }
     }
     Ok(())
 }
@@ -111,51 +83,101 @@ fn class_of_ms(rt: &impl Print, o: OptionalClassOfMs) -> io::Result<()> {
 fn energy_saving(rt: &impl Print, o: OptionalEnergySavingInformation) -> io::Result<()> {
     if o.present {
         let saving = o.value;
-        number(rt, b"saving", saving.energy_saving_mode as u64)?;
-        optional_u8(rt, b"frame", saving.frame_number)?;
-        optional_u8(rt, b"multiframe", saving.multiframe_number)?;
+        let frame = saving.frame_number;
+        let multiframe = saving.multiframe_number;
+        print!(rt; " saving {}", saving.energy_saving_mode)?;
+        numbers(
+            rt,
+            &[
+                ("frame", frame.present.then_some(u64::from(frame.value))),
+                (
+                    "multiframe",
+                    multiframe.present.then_some(u64::from(multiframe.value)),
+                ),
+            ],
+        )?;
     }
     Ok(())
 }
 
-fn uplink(rt: &impl Print, g: GroupIdentityUplink) -> io::Result<()> {
-    text(rt, b" |")?;
-    number_if(
+// Uplink and downlink groups are two types of the library, so what both hold is written for each.
+fn uplink(rt: &impl Print, g: &GroupIdentityUplink) -> io::Result<()> {
+    print!(rt; " |")?;
+    numbers(
         rt,
-        b"usage",
-        g.class_of_usage_present,
-        g.class_of_usage as u64,
-    )?;
-    number_if(
+        &[
+            (
+                "usage",
+                g.class_of_usage_present
+                    .then_some(u64::from(g.class_of_usage)),
+            ),
+            (
+                "detachment",
+                g.group_identity_detachment_uplink_present
+                    .then_some(u64::from(g.group_identity_detachment_uplink)),
+            ),
+            ("gssi", g.gssi_present.then_some(u64::from(g.gssi))),
+            (
+                "extension",
+                g.address_extension_present
+                    .then_some(u64::from(g.address_extension)),
+            ),
+            ("vgssi", g.vgssi_present.then_some(u64::from(g.vgssi))),
+        ],
+    )
+}
+
+fn downlink(rt: &impl Print, g: &GroupIdentityDownlink) -> io::Result<()> {
+    let attached = g.group_identity_attachment_present;
+    let attachment = g.group_identity_attachment;
+    print!(rt; " |")?;
+    numbers(
         rt,
-        b"detachment",
-        g.group_identity_detachment_uplink_present,
-        g.group_identity_detachment_uplink as u64,
-    )?;
-    number_if(rt, b"gssi", g.gssi_present, g.gssi as u64)?;
-    number_if(
-        rt,
-        b"extension",
-        g.address_extension_present,
-        g.address_extension as u64,
-    )?;
-    number_if(rt, b"vgssi", g.vgssi_present, g.vgssi as u64)
+        &[
+            (
+                "lifetime",
+                attached.then_some(u64::from(attachment.group_identity_attachment_lifetime)),
+            ),
+            (
+                "usage",
+                attached.then_some(u64::from(attachment.class_of_usage)),
+            ),
+            (
+                "detachment",
+                g.group_identity_detachment_uplink_present
+                    .then_some(u64::from(g.group_identity_detachment_uplink)),
+            ),
+            ("gssi", g.gssi_present.then_some(u64::from(g.gssi))),
+            (
+                "extension",
+                g.address_extension_present
+                    .then_some(u64::from(g.address_extension)),
+            ),
+            ("vgssi", g.vgssi_present.then_some(u64::from(g.vgssi))),
+        ],
+    )
 }
 
 // The count, the first group and the last.
-fn uplinks(rt: &impl Print, list: OptionalUplinks) -> io::Result<()> {
-    if list.present {
-        let count = list.count;
-        let groups = list.groups;
-        number(rt, b"| list", count as u64)?;
-        if 1 <= count {
-            uplink(rt, groups[0])?;
-        }
-        if 2 <= count {
-            if count <= 63 {
-                uplink(rt, groups[count - 1])?;
-            }
-        }
+fn list<P: Print, G, F: Fn(&P, &G) -> io::Result<()>>(
+    rt: &P,
+    present: bool,
+    count: usize,
+    groups: &[G],
+    one: F,
+) -> io::Result<()>
+    requires { F.IsAlwaysCallable one }
+{
+    if !present {
+        return Ok(());
+    }
+    print!(rt; " | list {count}")?;
+    let mut listed = groups.iter().take(count);
+    if let Some(g) = listed.next() {
+        one(rt, g)?;
+    }
+    if let Some(g) = listed.last() {
+        one(rt, g)?;
     }
     Ok(())
 }
@@ -163,61 +185,12 @@ fn uplinks(rt: &impl Print, list: OptionalUplinks) -> io::Result<()> {
 fn location_demand(rt: &impl Print, o: OptionalLocationDemand) -> io::Result<()> {
     if o.present {
         let location = o.value;
-        text(rt, b" | location")?;
-        number(
-            rt,
-            b"mode",
-            location.group_identity_attach_detach_mode as u64,
+        print!(rt;
+            " | location mode {}",
+            location.group_identity_attach_detach_mode
         )?;
-        uplinks(rt, location.group_identity_uplink)?;
-    }
-    Ok(())
-}
-
-fn downlink(rt: &impl Print, g: GroupIdentityDownlink) -> io::Result<()> {
-    let attachment = g.group_identity_attachment;
-    text(rt, b" |")?;
-    number_if(
-        rt,
-        b"lifetime",
-        g.group_identity_attachment_present,
-        attachment.group_identity_attachment_lifetime as u64,
-    )?;
-    number_if(
-        rt,
-        b"usage",
-        g.group_identity_attachment_present,
-        attachment.class_of_usage as u64,
-    )?;
-    number_if(
-        rt,
-        b"detachment",
-        g.group_identity_detachment_uplink_present,
-        g.group_identity_detachment_uplink as u64,
-    )?;
-    number_if(rt, b"gssi", g.gssi_present, g.gssi as u64)?;
-    number_if(
-        rt,
-        b"extension",
-        g.address_extension_present,
-        g.address_extension as u64,
-    )?;
-    number_if(rt, b"vgssi", g.vgssi_present, g.vgssi as u64)
-}
-
-fn downlinks(rt: &impl Print, list: OptionalDownlinks) -> io::Result<()> {
-    if list.present {
-        let count = list.count;
-        let groups = list.groups;
-        number(rt, b"| list", count as u64)?;
-        if 1 <= count {
-            downlink(rt, groups[0])?;
-        }
-        if 2 <= count {
-            if count <= 63 {
-                downlink(rt, groups[count - 1])?;
-            }
-        }
+        let l = location.group_identity_uplink;
+        list(rt, l.present, l.count, &l.groups, uplink)?;
     }
     Ok(())
 }
@@ -225,145 +198,128 @@ fn downlinks(rt: &impl Print, list: OptionalDownlinks) -> io::Result<()> {
 fn location_accept(rt: &impl Print, o: OptionalLocationAccept) -> io::Result<()> {
     if o.present {
         let location = o.value;
-        text(rt, b" | location")?;
-        number(
-            rt,
-            b"accept/reject",
-            location.group_identity_accept_reject as u64,
+        print!(rt;
+            " | location accept/reject {}",
+            location.group_identity_accept_reject
         )?;
-        downlinks(rt, location.group_identity_downlink)?;
+        let l = location.group_identity_downlink;
+        list(rt, l.present, l.count, &l.groups, downlink)?;
     }
     Ok(())
 }
 
-fn demand_record(rt: &impl Print, d: ULocationUpdateDemand) -> io::Result<()> {
-    number(rt, b"update type", d.location_update_type as u64)?;
-    number(rt, b"append", d.request_to_append_la as u64)?;
-    number(rt, b"cipher", d.cipher_control as u64)?;
-    optional_u64(rt, b"ciphering", d.ciphering_parameters)?;
+fn demand(rt: &impl Print, d: ULocationUpdateDemand) -> io::Result<()> {
+    let ciphering = d.ciphering_parameters;
+    let mode = d.energy_saving_mode;
+    let la = d.la_information;
+    let ssi = d.ssi;
+    let extension = d.address_extension;
+    print!(rt;
+        " update type {} append {} cipher {}",
+        d.location_update_type, d.request_to_append_la, d.cipher_control
+    )?;
+    numbers(
+        rt,
+        &[("ciphering", ciphering.present.then_some(ciphering.value))],
+    )?;
     class_of_ms(rt, d.class_of_ms)?;
-    optional_u8(rt, b"mode", d.energy_saving_mode)?;
-    optional_u64(rt, b"la", d.la_information)?;
-    optional_u64(rt, b"ssi", d.ssi)?;
-    optional_u64(rt, b"extension", d.address_extension)?;
-    demand_elements(rt, d)
-}
-
-fn demand_elements(rt: &impl Print, d: ULocationUpdateDemand) -> io::Result<()> {
+    numbers(
+        rt,
+        &[
+            ("mode", mode.present.then_some(u64::from(mode.value))),
+            ("la", la.present.then_some(la.value)),
+            ("ssi", ssi.present.then_some(ssi.value)),
+            ("extension", extension.present.then_some(extension.value)),
+        ],
+    )?;
     location_demand(rt, d.group_identity_location_demand)?;
-    type3(rt, b"4 length", d.group_report_response)?;
-    type3(rt, b"9 length", d.authentication_uplink)?;
-    type3(rt, b"11 length", d.extended_capabilities)?;
-    type3(rt, b"15 length", d.proprietary)
+    type3(rt, 4, d.group_report_response)?;
+    type3(rt, 9, d.authentication_uplink)?;
+    type3(rt, 11, d.extended_capabilities)?;
+    type3(rt, 15, d.proprietary)
 }
 
-fn accept_record(rt: &impl Print, a: DLocationUpdateAccept) -> io::Result<()> {
-    number(rt, b"accept type", a.location_update_accept_type as u64)?;
-    optional_u64(rt, b"ssi", a.ssi)?;
-    optional_u64(rt, b"extension", a.address_extension)?;
-    optional_u64(rt, b"subscriber", a.subscriber_class)?;
+fn accept(rt: &impl Print, a: DLocationUpdateAccept) -> io::Result<()> {
+    let ssi = a.ssi;
+    let extension = a.address_extension;
+    let subscriber = a.subscriber_class;
+    let scch = a.scch_information_and_distribution_on_18th_frame;
+    print!(rt; " accept type {}", a.location_update_accept_type)?;
+    numbers(
+        rt,
+        &[
+            ("ssi", ssi.present.then_some(ssi.value)),
+            ("extension", extension.present.then_some(extension.value)),
+            ("subscriber", subscriber.present.then_some(subscriber.value)),
+        ],
+    )?;
     energy_saving(rt, a.energy_saving_information)?;
-    optional_u64(
-        rt,
-        b"scch",
-        a.scch_information_and_distribution_on_18th_frame,
-    )?;
-    accept_elements(rt, a)
-}
-
-fn accept_elements(rt: &impl Print, a: DLocationUpdateAccept) -> io::Result<()> {
-    type4(rt, b"2 length", a.new_registered_area)?;
-    type3(rt, b"3 length", a.security_downlink)?;
+    numbers(rt, &[("scch", scch.present.then_some(scch.value))])?;
+    type4(rt, 2, a.new_registered_area)?;
+    type3(rt, 3, a.security_downlink)?;
     location_accept(rt, a.group_identity_location_accept)?;
-    type3(rt, b"1 length", a.default_group_attachment_lifetime)?;
-    type3(rt, b"10 length", a.authentication_downlink)?;
-    type4(
-        rt,
-        b"12 length",
-        a.group_identity_security_related_information,
+    type3(rt, 1, a.default_group_attachment_lifetime)?;
+    type3(rt, 10, a.authentication_downlink)?;
+    type4(rt, 12, a.group_identity_security_related_information)?;
+    type3(rt, 13, a.cell_type_control)?;
+    type3(rt, 15, a.proprietary)
+}
+
+fn attach_detach(rt: &impl Print, d: DAttachDetachGroupIdentity) -> io::Result<()> {
+    let acknowledgement = d.group_identity_acknowledgement_request;
+    print!(rt;
+        " report {} acknowledgement {acknowledgement} mode {}",
+        d.group_identity_report, d.group_identity_attach_detach_mode
     )?;
-    type3(rt, b"13 length", a.cell_type_control)?;
-    type3(rt, b"15 length", a.proprietary)
+    type3(rt, 15, d.proprietary)?;
+    type3(rt, 4, d.group_report_response)?;
+    let l = d.group_identity_downlink;
+    list(rt, l.present, l.count, &l.groups, downlink)?;
+    type4(rt, 12, d.group_identity_security_related_information)
 }
 
-fn attach_detach_record(rt: &impl Print, d: DAttachDetachGroupIdentity) -> io::Result<()> {
-    number(rt, b"report", d.group_identity_report as u64)?;
-    number(
-        rt,
-        b"acknowledgement",
-        d.group_identity_acknowledgement_request as u64,
-    )?;
-    number(rt, b"mode", d.group_identity_attach_detach_mode as u64)?;
-    type3(rt, b"15 length", d.proprietary)?;
-    type3(rt, b"4 length", d.group_report_response)?;
-    downlinks(rt, d.group_identity_downlink)?;
-    type4(
-        rt,
-        b"12 length",
-        d.group_identity_security_related_information,
-    )
-}
-
-fn message_record(rt: &impl Print, message: u64, record: Record) -> io::Result<()> {
-    text(rt, b" |")?;
-    if message == DEMAND {
-        demand_record(rt, record.demand)?;
-        return Ok(());
+fn record(rt: &impl Print, message: u64, held: Record) -> io::Result<()> {
+    match message {
+        DEMAND => demand(rt, held.demand),
+        ACCEPT => accept(rt, held.accept),
+        _ => attach_detach(rt, held.attach_detach),
     }
-    if message == ACCEPT {
-        accept_record(rt, record.accept)?;
-        return Ok(());
-    }
-    attach_detach_record(rt, record.attach_detach)
 }
 
-// One reading, behind the trial's name.
+// One reading. Message and reading are the library's numbers, since unknown ones are tried too.
 pub(crate) fn line(
     rt: &impl Print,
+    name: impl Display + Drop,
     octets: &[u8],
-    first: usize,
-    end: usize,
+    window: Range<usize>,
     message: u64,
     wanted: u64,
 ) -> io::Result<()> {
-    let r = read(octets, first, end, message, wanted);
-    let v = r.verdict;
-    text(rt, b":")?;
-    match v {
+    let r = read(octets, window.start, window.end, message, wanted);
+    match r.verdict {
         Verdict::Accepted => {
-            number(rt, b"consumed", r.consumed as u64)?;
-            number(rt, b"skipped", r.skipped as u64)?;
-            message_record(rt, message, r.record)?;
+            print!(rt; "{name}: consumed {} skipped {} |", r.consumed, r.skipped)?;
+            record(rt, message, r.record)?;
+            println!(rt)
         }
-        Verdict::Refused(n) => number(rt, b"refused", n as u64)?,
+        Verdict::Refused(n) => println!(rt; "{name}: refused {n}"),
     }
-    text(rt, b"\n")
 }
 
-// A window from bit 0 on, read strictly.
-pub(crate) fn strict(
-    rt: &impl Print,
-    name: &[u8],
-    octets: &[u8],
-    end: usize,
-    message: u64,
-) -> io::Result<()> {
-    text(rt, name)?;
-    line(rt, octets, 0, end, message, STRICT)
+// All of a message from bit 0 on, read strictly.
+pub(crate) fn strict(rt: &impl Print, name: impl Display + Drop, m: &Message) -> io::Result<()> {
+    line(rt, name, &m.octets, 0..m.end(), m.message, STRICT)
 }
 
 // The same in both readings.
-pub(crate) fn both(
-    rt: &impl Print,
-    name: &[u8],
-    octets: &[u8],
-    end: usize,
-    message: u64,
-) -> io::Result<()> {
-    text(rt, name)?;
-    text(rt, b", strict")?;
-    line(rt, octets, 0, end, message, STRICT)?;
-    text(rt, name)?;
-    text(rt, b", skipping")?;
-    line(rt, octets, 0, end, message, SKIPPING)
+pub(crate) fn both(rt: &impl Print, name: &str, m: &Message) -> io::Result<()> {
+    strict(rt, format_args!("{name}, strict"), m)?;
+    line(
+        rt,
+        format_args!("{name}, skipping"),
+        &m.octets,
+        0..m.end(),
+        m.message,
+        SKIPPING,
+    )
 }

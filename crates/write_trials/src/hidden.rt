@@ -1,23 +1,20 @@
 // Values over their widths in what is absent and behind a list's count: nothing looks at them.
 use crate::groups::{downlink_trial, downlinks_trial, uplink_trial, uplinks_trial};
 use crate::records::{
-    accept, accept_list, accept_saving, accept_trial, attach_detach, attach_detach_list,
-    attach_detach_trial, demand, demand_list, demand_trial,
+    Accept, AttachDetach, Demand, accept_list, accept_saving, attach_detach_list, demand_list,
+    trial, with,
 };
-use crate::show::{text, whole};
+use crate::show::line_512;
 use crate::values::{
-    NO_OCTET, attachment, class_of_version, downlink, downlink_at, downlinks, downlinks_then, gssi,
-    octet, saving, type3, type4, uplink, uplink_at, uplinks, uplinks_then,
+    NO_OCTET, attachment, class_of_version, downlink, downlink_at, downlinks, gssi, octet, saving,
+    then, type3, type4, uplink, uplink_at, uplinks,
 };
-use elements::class_of_ms::OptionalClassOfMs;
+use elements::class_of_ms::{ClassOfMs, OptionalClassOfMs};
 use elements::energy_saving_information::OptionalEnergySavingInformation;
 use elements::group_address::GroupAddress;
 use elements::group_identity_downlink::{GroupIdentityDownlink, OptionalDownlinks};
 use elements::group_identity_uplink::{GroupIdentityUplink, OptionalUplinks};
 use elements::typed_pdu_fields::{OptionalType3, OptionalType4, OptionalU8, OptionalU64};
-use messages::d_attach_detach_group_identity::DAttachDetachGroupIdentity;
-use messages::d_location_update_accept::DLocationUpdateAccept;
-use messages::u_location_update_demand::ULocationUpdateDemand;
 use messages::{ACCEPT, ATTACH_DETACH, DEMAND, Record};
 use std::io;
 
@@ -32,39 +29,43 @@ const NUMBER: OptionalU64 = OptionalU64 {
 };
 
 fn hidden_type3() -> OptionalType3 {
-    let mut g = type3(usize::MAX, u64::MAX);
-    g.present = false;
-    g
+    OptionalType3 {
+        present: false,
+        ..type3(usize::MAX, u64::MAX)
+    }
 }
 
 fn hidden_type4() -> OptionalType4 {
-    let mut g = type4(usize::MAX, usize::MAX, u64::MAX);
-    g.present = false;
-    g
+    OptionalType4 {
+        present: false,
+        ..type4(usize::MAX, usize::MAX, u64::MAX)
+    }
 }
 
 fn hidden_class() -> OptionalClassOfMs {
-    let mut k = class_of_version(255);
-    k.freq_simplex_duplex = 255;
-    k.d8psk = 255;
     OptionalClassOfMs {
         present: false,
-        value: k,
+        value: ClassOfMs {
+            freq_simplex_duplex: 255,
+            d8psk: 255,
+            ..class_of_version(255)
+        },
     }
 }
 
 fn hidden_saving() -> OptionalEnergySavingInformation {
-    let mut s = saving(255, octet(255), NO_OCTET);
-    s.present = false;
-    s
+    OptionalEnergySavingInformation {
+        present: false,
+        ..saving(255, octet(255), NO_OCTET)
+    }
 }
 
 // The three addresses over their width, all present or all absent.
 fn wrong_address(there: bool) -> GroupAddress {
     GroupAddress {
-        gssi: 0xFFFF_FFFF,
-        address_extension: 0xFFFF_FFFF,
-        vgssi: 0xFFFF_FFFF,
+        gssi: u32::MAX,
+        address_extension: u32::MAX,
+        vgssi: u32::MAX,
         gssi_present: there,
         address_extension_present: there,
         vgssi_present: there,
@@ -81,28 +82,28 @@ fn wrong_downlink() -> GroupIdentityDownlink {
 }
 
 fn hidden_uplinks() -> OptionalUplinks {
-    let mut list = uplinks(usize::MAX, wrong_uplink());
-    list.present = false;
-    list
+    OptionalUplinks {
+        present: false,
+        ..uplinks(usize::MAX, [wrong_uplink(); 63])
+    }
 }
 
 fn hidden_downlinks() -> OptionalDownlinks {
-    let mut list = downlinks(usize::MAX, wrong_downlink());
-    list.present = false;
-    list
+    OptionalDownlinks {
+        present: false,
+        ..downlinks(usize::MAX, [wrong_downlink(); 63])
+    }
 }
 
-fn hidden_demand() -> ULocationUpdateDemand {
-    let mut d = demand_list(uplinks(usize::MAX, wrong_uplink()));
-    let number = NUMBER;
-    let octet = OCTET;
+fn hidden_demand() -> Demand {
+    let mut d = demand_list(uplinks(usize::MAX, [wrong_uplink(); 63]));
     d.group_identity_location_demand.present = false;
-    d.ciphering_parameters = number;
+    d.ciphering_parameters = NUMBER;
     d.class_of_ms = hidden_class();
-    d.energy_saving_mode = octet;
-    d.la_information = number;
-    d.ssi = number;
-    d.address_extension = number;
+    d.energy_saving_mode = OCTET;
+    d.la_information = NUMBER;
+    d.ssi = NUMBER;
+    d.address_extension = NUMBER;
     d.group_report_response = hidden_type3();
     d.authentication_uplink = hidden_type3();
     d.extended_capabilities = hidden_type3();
@@ -110,9 +111,14 @@ fn hidden_demand() -> ULocationUpdateDemand {
     d
 }
 
-fn hidden_accept_elements() -> DLocationUpdateAccept {
-    let mut a = accept_list(downlinks(usize::MAX, wrong_downlink()));
+fn hidden_accept() -> Accept {
+    let mut a = accept_list(downlinks(usize::MAX, [wrong_downlink(); 63]));
     a.group_identity_location_accept.present = false;
+    a.ssi = NUMBER;
+    a.address_extension = NUMBER;
+    a.subscriber_class = NUMBER;
+    a.energy_saving_information = hidden_saving();
+    a.scch_information_and_distribution_on_18th_frame = NUMBER;
     a.new_registered_area = hidden_type4();
     a.security_downlink = hidden_type3();
     a.default_group_attachment_lifetime = hidden_type3();
@@ -123,123 +129,118 @@ fn hidden_accept_elements() -> DLocationUpdateAccept {
     a
 }
 
-fn hidden_accept() -> DLocationUpdateAccept {
-    let number = NUMBER;
-    let mut a = hidden_accept_elements();
-    a.ssi = number;
-    a.address_extension = number;
-    a.subscriber_class = number;
-    a.energy_saving_information = hidden_saving();
-    a.scch_information_and_distribution_on_18th_frame = number;
-    a
-}
-
-fn hidden_attach_detach() -> DAttachDetachGroupIdentity {
-    let mut d = attach_detach_list(hidden_downlinks());
-    d.proprietary = hidden_type3();
-    d.group_report_response = hidden_type3();
-    d.group_identity_security_related_information = hidden_type4();
-    d
+fn hidden_attach_detach() -> AttachDetach {
+    AttachDetach {
+        proprietary: hidden_type3(),
+        group_report_response: hidden_type3(),
+        group_identity_security_related_information: hidden_type4(),
+        ..attach_detach_list(hidden_downlinks())
+    }
 }
 
 // Each message's is refused with 8. A call looks at its own message's alone.
 fn wrong_records() -> Record {
-    let mut d = demand();
-    d.location_update_type = 255;
-    let mut a = accept();
-    a.location_update_accept_type = 255;
-    let mut g = attach_detach();
-    g.group_identity_report = 255;
     Record {
-        demand: d,
-        accept: a,
-        attach_detach: g,
+        demand: with(|d: &mut Demand| d.location_update_type = 255),
+        accept: with(|a: &mut Accept| a.location_update_accept_type = 255),
+        attach_detach: with(|d: &mut AttachDetach| d.group_identity_report = 255),
     }
 }
 
-fn absent(rt: &impl Print) -> io::Result<()> {
-    let mut r = wrong_records();
-    r.demand = hidden_demand();
-    text(rt, b"demand, values in all that is absent")?;
-    whole(rt, DEMAND, r)?;
-    let mut r = wrong_records();
-    r.accept = hidden_accept();
-    text(rt, b"accept, values in all that is absent")?;
-    whole(rt, ACCEPT, r)?;
-    let mut r = wrong_records();
-    r.attach_detach = hidden_attach_detach();
-    text(rt, b"attach/detach, values in all that is absent")?;
-    whole(rt, ATTACH_DETACH, r)
+fn absent(rt: &impl Print, name: &str, message: u64, held: Record) -> io::Result<()> {
+    line_512(
+        rt,
+        format_args!("{name}, values in all that is absent"),
+        0..4096,
+        message,
+        held,
+    )
+}
+
+fn records(rt: &impl Print) -> io::Result<()> {
+    let demand = Record {
+        demand: hidden_demand(),
+        ..wrong_records()
+    };
+    absent(rt, "demand", DEMAND, demand)?;
+    let accept = Record {
+        accept: hidden_accept(),
+        ..wrong_records()
+    };
+    absent(rt, "accept", ACCEPT, accept)?;
+    let attach_detach = Record {
+        attach_detach: hidden_attach_detach(),
+        ..wrong_records()
+    };
+    absent(rt, "attach/detach", ATTACH_DETACH, attach_detach)
 }
 
 fn lists(rt: &impl Print) -> io::Result<()> {
-    demand_trial(
+    trial(
         rt,
-        b"values in an absent list",
+        "values in an absent list",
         demand_list(hidden_uplinks()),
     )?;
-    accept_trial(
+    trial(
         rt,
-        b"values in an absent list",
+        "values in an absent list",
         accept_list(hidden_downlinks()),
     )?;
-    let behind = downlinks(0, wrong_downlink());
-    demand_trial(
+    let behind = uplinks(0, [wrong_uplink(); 63]);
+    trial(rt, "values behind an empty list", demand_list(behind))?;
+    let behind = downlinks(0, [wrong_downlink(); 63]);
+    trial(rt, "values behind an empty list", accept_list(behind))?;
+    trial(
         rt,
-        b"values behind an empty list",
-        demand_list(uplinks(0, wrong_uplink())),
-    )?;
-    accept_trial(rt, b"values behind an empty list", accept_list(behind))?;
-    attach_detach_trial(
-        rt,
-        b"values behind an empty list",
+        "values behind an empty list",
         attach_detach_list(behind),
     )?;
     uplinks_trial(
         rt,
-        b"values behind one group",
-        uplinks_then(1, uplink_at(gssi(1)), wrong_uplink()),
+        "values behind one group",
+        uplinks(1, then(uplink_at(gssi(1)), wrong_uplink())),
     )?;
     downlinks_trial(
         rt,
-        b"values behind one group",
-        downlinks_then(1, downlink_at(gssi(1)), wrong_downlink()),
+        "values behind one group",
+        downlinks(1, then(downlink_at(gssi(1)), wrong_downlink())),
     )
 }
 
 // An address with a GSSI of 1.
 fn gssi_alone() -> GroupAddress {
-    let mut a = wrong_address(false);
-    a.gssi = 1;
-    a.gssi_present = true;
-    a
+    GroupAddress {
+        gssi: 1,
+        gssi_present: true,
+        ..wrong_address(false)
+    }
 }
 
 fn groups(rt: &impl Print) -> io::Result<()> {
     uplink_trial(
         rt,
-        b"values in what is absent",
+        "values in what is absent",
         uplink(octet(4), OCTET, gssi_alone()),
     )?;
     uplink_trial(
         rt,
-        b"values in what is absent, detached",
+        "values in what is absent, detached",
         uplink(OCTET, octet(3), gssi_alone()),
     )?;
     downlink_trial(
         rt,
-        b"values in what is absent",
+        "values in what is absent",
         downlink(attachment(3, 4), OCTET, gssi_alone()),
     )?;
-    accept_trial(
+    trial(
         rt,
-        b"StayAlive, values in what is absent",
+        "StayAlive, values in what is absent",
         accept_saving(0, OCTET, OCTET),
     )
 }
 
 pub(crate) fn trials(rt: &impl Print) -> io::Result<()> {
-    absent(rt)?;
+    records(rt)?;
     lists(rt)?;
     groups(rt)
 }

@@ -22,7 +22,7 @@ fn main(rt: HostRuntime) -> io::Result<()> {
     numbers::ciphering(&rt)?;
     groups::trials(&rt)?;
     numbers::saving(&rt)?;
-    numbers::type4(&rt)?;
+    numbers::type4_elements(&rt)?;
     lists::trials(&rt)?;
     windows::lengths(&rt)?;
     faults::trials(&rt)?;

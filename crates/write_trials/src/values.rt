@@ -1,4 +1,5 @@
-// What the records hold: numbers, generic elements, groups and lists of groups.
+// What the records hold: numbers, generic elements, groups and lists of groups. Each optional value has a type of its own, as
+// it crosses the C interface, so there is a function for each.
 use elements::class_of_ms::{ClassOfMs, OptionalClassOfMs, no_class_of_ms};
 use elements::energy_saving_information::{
     EnergySavingInformation, OptionalEnergySavingInformation,
@@ -26,49 +27,43 @@ pub(crate) const NO_OCTET: OptionalU8 = OptionalU8 {
 pub(crate) fn number(value: u64) -> OptionalU64 {
     OptionalU64 {
         present: true,
-        value: value,
+        value,
     }
 }
 
 pub(crate) fn octet(value: u8) -> OptionalU8 {
     OptionalU8 {
         present: true,
-        value: value,
+        value,
     }
 }
 
 pub(crate) fn type3(len: usize, data: u64) -> OptionalType3 {
     OptionalType3 {
         present: true,
-        value: Type3FieldGeneric {
-            len: len,
-            data: data,
-        },
+        value: Type3FieldGeneric { len, data },
     }
 }
 
 pub(crate) fn type4(len: usize, elems: usize, data: u64) -> OptionalType4 {
     OptionalType4 {
         present: true,
-        value: Type4FieldGeneric {
-            len: len,
-            elems: elems,
-            data: data,
-        },
+        value: Type4FieldGeneric { len, elems, data },
     }
 }
 
 // All 0 but the version.
 pub(crate) fn class_of_version(version: u8) -> ClassOfMs {
-    let mut k = no_class_of_ms();
-    k.air_interface_version = version;
-    k
+    ClassOfMs {
+        air_interface_version: version,
+        ..no_class_of_ms()
+    }
 }
 
-pub(crate) fn class_of_ms(k: ClassOfMs) -> OptionalClassOfMs {
+pub(crate) fn class_of_ms(value: ClassOfMs) -> OptionalClassOfMs {
     OptionalClassOfMs {
         present: true,
-        value: k,
+        value,
     }
 }
 
@@ -100,9 +95,10 @@ pub(crate) fn address(gssi: bool, extension: bool, vgssi: bool) -> GroupAddress 
 }
 
 pub(crate) fn gssi(value: u32) -> GroupAddress {
-    let mut a = address(true, false, false);
-    a.gssi = value;
-    a
+    GroupAddress {
+        gssi: value,
+        ..address(true, false, false)
+    }
 }
 
 pub(crate) fn uplink(
@@ -114,7 +110,7 @@ pub(crate) fn uplink(
         gssi: a.gssi,
         address_extension: a.address_extension,
         vgssi: a.vgssi,
-        class_of_usage: usage.value as u16,
+        class_of_usage: u16::from(usage.value),
         class_of_usage_present: usage.present,
         group_identity_detachment_uplink_present: detachment.present,
         group_identity_detachment_uplink: detachment.value,
@@ -149,13 +145,12 @@ pub(crate) fn downlink(
     detachment: OptionalU8,
     a: GroupAddress,
 ) -> GroupIdentityDownlink {
-    let value = attached.value;
     GroupIdentityDownlink {
         gssi: a.gssi,
         address_extension: a.address_extension,
         vgssi: a.vgssi,
         group_identity_attachment_present: attached.present,
-        group_identity_attachment: value,
+        group_identity_attachment: attached.value,
         group_identity_detachment_uplink_present: detachment.present,
         group_identity_detachment_uplink: detachment.value,
         gssi_present: a.gssi_present,
@@ -169,50 +164,25 @@ pub(crate) fn downlink_at(a: GroupAddress) -> GroupIdentityDownlink {
     downlink(attachment(3, 4), NO_OCTET, a)
 }
 
-// Groups that are all alike.
-pub(crate) fn uplinks(count: usize, g: GroupIdentityUplink) -> OptionalUplinks {
-    let groups = [g; 63];
-    OptionalUplinks {
-        present: true,
-        count: count,
-        groups: groups,
-    }
-}
-
-pub(crate) fn downlinks(count: usize, g: GroupIdentityDownlink) -> OptionalDownlinks {
-    let groups = [g; 63];
-    OptionalDownlinks {
-        present: true,
-        count: count,
-        groups: groups,
-    }
-}
-
 // One group, and behind it others that are all alike.
-pub(crate) fn uplinks_then(
-    count: usize,
-    first: GroupIdentityUplink,
-    other: GroupIdentityUplink,
-) -> OptionalUplinks {
+pub(crate) fn then<G: Copy>(first: G, other: G) -> [G; 63] {
     let mut groups = [other; 63];
     groups[0] = first;
+    groups
+}
+
+pub(crate) fn uplinks(count: usize, groups: [GroupIdentityUplink; 63]) -> OptionalUplinks {
     OptionalUplinks {
         present: true,
-        count: count,
-        groups: groups,
+        count,
+        groups,
     }
 }
 
-pub(crate) fn downlinks_then(
-    count: usize,
-    first: GroupIdentityDownlink,
-    other: GroupIdentityDownlink,
-) -> OptionalDownlinks {
-    let mut groups = [other; 63];
-    groups[0] = first;
+pub(crate) fn downlinks(count: usize, groups: [GroupIdentityDownlink; 63]) -> OptionalDownlinks {
     OptionalDownlinks {
         present: true,
-        count: count,
-        groups: groups,
+        count,
+        groups,
     }
 }
