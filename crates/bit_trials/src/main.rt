@@ -2,7 +2,7 @@
 // and the number.
 #![tactic(auto)]
 
-use bits::bitbuffer::{Cursor, Field, Moved};
+use bits::bitbuffer::Cursor;
 use std::{array, fmt, io};
 
 fn stir(seed: u64) -> u64 {
@@ -54,12 +54,12 @@ fn trial(rt: &impl Print, offset: u8, width: u8) -> io::Result<()> {
     };
     print!(rt; "{offset} {width} ")?;
     match to.write(&mut octets, value, width) {
-        Moved::To(_) => print!(rt; "{} ", Hex(&octets))?,
-        Moved::Refused(n) => print!(rt; "refused {n} ")?,
+        Ok(_) => print!(rt; "{} ", Hex(&octets))?,
+        Err(e) => print!(rt; "refused {} ", e.number())?,
     }
-    match from.read(&octets, width) {
-        Field::Value(v, _) => println!(rt; "{v:016x}"),
-        Field::Refused(n) => println!(rt; "refused {n}"),
+    match from.read::<u64>(&octets, width) {
+        Ok((v, _)) => println!(rt; "{v:016x}"),
+        Err(e) => println!(rt; "refused {}", e.number()),
     }
 }
 

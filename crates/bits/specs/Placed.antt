@@ -1,7 +1,7 @@
 -- A reader of bits, run at a cursor over octets; and what each answer of the code says.
-use Rattle.std.specs.Prelude.{ℕ, ◌+◌, ◌-◌, ◌*◌, ◌%◌, min, cond, List, length, take, drop, eqb, Result, Ok, Err}
+use Rattle.std.specs.Prelude.{ℕ, ◌+◌, ◌-◌, ◌*◌, min, List, length, take, drop, Option, None, Some, Result, Ok, Err}
 use Rattle.bits.specs.Bits.{Bits, number, bits_of}
-use Rattle.bits.specs.PduParseError.{number_of, error_of}
+use Rattle.bits.specs.PduParseError.{number_of}
 use Rattle.bits.specs.Reader.{Answer, got, refused, Reader}
 use Rattle.bits.specs.declared.bitbuffer.Cursor.{Cursor}
 use Rattle.bits.specs.declared.pdu_parse_error.PduParseErr.{PduParseErr}
@@ -41,7 +41,7 @@ at r os c = place c (length (window os c)) (r (window os c))
 
 -- a value, of which f says what it is, and the moved place, or a refusal
 abbrev pub as_by : {A B : Type 0} → (A → B) → Result (A × Cursor) PduParseErr → Placed B
-as_by f (Ok (v , c)) = placed (f v) c
+as_by f (Ok (v, c)) = placed (f v) c
 as_by f (Err e) = halted e
 
 abbrev pub as_read : {A : Type 0} → Result (A × Cursor) PduParseErr → Placed A
@@ -51,9 +51,13 @@ abbrev pub as_moved : Result Cursor PduParseErr → Placed Unit
 as_moved (Ok c) = placed tt c
 as_moved (Err e) = halted e
 
--- a place to write at: behind a refusal its number stands in the lowest octet
+abbrev placed_unless : Option PduParseErr → Cursor → Placed Unit
+placed_unless None c = placed tt c
+placed_unless (Some e) c = halted e
+
+-- a place to write at, or the refusal behind which nothing is written
 abbrev pub as_place : Place → Placed Unit
-as_place p = cond (eqb p.halt 0) (placed tt (record { at = p.at; end = p.end })) (halted (error_of (p.halt % 256)))
+as_place p = placed_unless p.halt (record { at = p.at; end = p.end })
 
 -- w bits written at a cursor, or a refusal
 abbrev pub stored : ℕ → Cursor → Result Unit PduParseErr → Placed Unit

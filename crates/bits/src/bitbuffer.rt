@@ -24,6 +24,7 @@ pub type Moved = Result<Cursor, PduParseErr>;
 // A number that a field is read as.
 pub trait Number: Copy {
     ghost value: { Self → ℕ };
+
     ghost BITS: { ℕ };
     // How many bits it has at most.
     const BITS: usize;
@@ -37,8 +38,11 @@ pub trait Number: Copy {
 
 impl Number for u8 {
     ghost value = { λ v. v };
+
     ghost BITS = { 8 };
+
     ghost at_most_64 = { Prim.search rules };
+
     const BITS: usize = 8;
 
     fn of(v: u64) -> u8 {
@@ -48,8 +52,11 @@ impl Number for u8 {
 
 impl Number for u32 {
     ghost value = { λ v. v };
+
     ghost BITS = { 32 };
+
     ghost at_most_64 = { Prim.search rules };
+
     const BITS: usize = 32;
 
     fn of(v: u64) -> u32 {
@@ -59,8 +66,11 @@ impl Number for u32 {
 
 impl Number for u64 {
     ghost value = { λ v. v };
+
     ghost BITS = { 64 };
+
     ghost at_most_64 = { Prim.search rules };
+
     const BITS: usize = 64;
 
     fn of(v: u64) -> u64 {
@@ -68,13 +78,12 @@ impl Number for u64 {
     }
 }
 
-// Where what comes next is written: from `at` up to `end`; or nowhere, behind a refusal: `halt` is 0, or 256 and its number.
-// Words only, so that passing it on through memory is fast, which an enum's tag of one octet is not.
+// Where what comes next is written: from `at` up to `end`; or nowhere, behind a refusal.
 #[derive(Clone, Copy)]
 pub struct Place {
     pub at: usize,
     pub end: usize,
-    pub halt: u64,
+    pub halt: Option<PduParseErr>,
 }
 
 // At most 64 bits, to be written as one field: the low `width` digits of `value`.
@@ -131,16 +140,14 @@ fn gather(part: &[u8], skip: usize, width: usize) -> u64
         return value >> (8 - stop);
     }
     let whole = stop / 8;
-    let mut i: usize = 1;
-    while i < whole {
+    for i in 1..whole {
         value = (value << 8) | wide(part[i]);
-        i += 1;
     }
     let last = stop % 8;
     if last == 0 {
         return value;
     }
-    (value << last) | (wide(part[i]) >> (8 - last))
+    (value << last) | (wide(part[whole]) >> (8 - last))
 }
 
 // The octet with `chunk` in the place of its `n` bits from bit `skip` on.
@@ -168,14 +175,13 @@ fn scatter(part: &mut [u8], skip: usize, width: usize, value: u64)
     let head = 8 - skip;
     let mut left = width - head;
     part[0] = patch(part[0], skip, head, value >> left);
-    let mut i: usize = 1;
-    while 8 <= left {
+    let whole = stop / 8;
+    for i in 1..whole {
         left -= 8;
         part[i] = ((value >> left) % 256) as u8;
-        i += 1;
     }
     if 0 < left {
-        part[i] = patch(part[i], 0, left, low(value, left));
+        part[whole] = patch(part[whole], 0, left, low(value, left));
     }
 }
 
@@ -245,11 +251,11 @@ impl Cursor {
         if T::BITS < width {
             return Err(PduParseErr::BufferEnded);
         }
-        if self.holds(octets.len(), width) {
-            let v = value(octets, self.at, width);
-            return Ok((T::of(v), self.past(width)));
+        if !self.holds(octets.len(), width) {
+            return Err(PduParseErr::BufferEnded);
         }
-        Err(PduParseErr::BufferEnded)
+        let v = value(octets, self.at, width);
+        Ok((T::of(v), self.past(width)))
     }
 
     // Past the next `width` bits, whatever they hold.
@@ -335,48 +341,50 @@ impl Place {
     pub fn put(self, octets: &mut [u8], d: Digits) -> Place
         ensures { written octets.new (as_place result) ≡ next (write_field d.width d.value) (written octets.old (as_place self)) }
     {
-        if self.halt == 0 {
-            let c = Cursor {
-                at: self.at,
-                end: self.end,
-            };
-            return match c.store(octets, d.value, d.width) {
-                Ok(()) => Place {
-                    at: self.at + d.width,
-                    end: self.end,
-                    halt: 0,
-                },
-                Err(e) => self.refuse(e),
-            };
+        if self.halt.is_some() {
+            return self;
         }
-        self
+        let c = Cursor {
+            at: self.at,
+            end: self.end,
+        };
+        match c.store(octets, d.value, d.width) {
+            Ok(()) => Place {
+                at: self.at + d.width,
+                end: self.end,
+                halt: None,
+            },
+            Err(e) => Place {
+                halt: Some(e),
+                ..self
+            },
+        }
     }
 
     // Whether `width` bits are left, in `len` octets; none behind a refusal.
     pub fn has(self, len: usize, width: usize) -> bool
         ensures { result ≡ room_for width len (as_place self) }
     {
-        if self.halt == 0 {
-            let c = Cursor {
-                at: self.at,
-                end: self.end,
-            };
-            return c.holds(len, width);
+        if self.halt.is_some() {
+            return false;
         }
-        false
+        let c = Cursor {
+            at: self.at,
+            end: self.end,
+        };
+        c.holds(len, width)
     }
 
     // A refusal; one that stands already stays as it is.
     pub fn refuse(self, e: PduParseErr) -> Place
         ensures { as_place result ≡ refuse e (as_place self) }
     {
-        if self.halt == 0 {
-            return Place {
-                at: self.at,
-                end: self.end,
-                halt: 256 + e.number() as u64,
-            };
+        if self.halt.is_some() {
+            return self;
         }
-        self
+        Place {
+            halt: Some(e),
+            ..self
+        }
     }
 }

@@ -9,7 +9,7 @@ ghost use Rattle.elements.specs.Kinds.{type3_held, type4_held};
 ghost use Rattle.element_writers.specs.WrittenElements.{header_bits, write_type3, type3_size};
 
 use bits::bitbuffer::{Digits, NO_DIGITS, Place, within};
-use bits::pdu_parse_error::{VALUE_TOO_LARGE, WINDOW_TOO_SHORT};
+use bits::pdu_parse_error::PduParseErr;
 use elements::typed_pdu_fields::{OptionalType3, OptionalType4};
 
 // An O-bit, an M-bit or a P-bit.
@@ -92,9 +92,9 @@ pub fn write_type3_generic(m: Place, octets: &mut [u8], identifier: u8, o: Optio
                 let m1 = m.put(octets, element_header(identifier, g.len));
                 return m1.put(octets, NO_DIGITS.then(g.data, g.len));
             }
-            return m.refuse(WINDOW_TOO_SHORT);
+            return m.refuse(PduParseErr::WindowTooShort);
         }
-        return m.refuse(VALUE_TOO_LARGE);
+        return m.refuse(PduParseErr::ValueTooLarge);
     }
     m
 }

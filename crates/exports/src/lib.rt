@@ -12,14 +12,13 @@ ghost use Rattle.exports.specs.Flat.{read_result, read_buffer};
 ghost use Rattle.exports.specs.Rewrite.{writing_result, rewrite_result, rewrite_octets};
 
 use bits::bitbuffer::Cursor;
-use bits::pdu_parse_error::{BAD_CALL, WINDOW_TOO_SHORT};
-use elements::typed_pdu_fields::Skipped;
+use bits::pdu_parse_error::PduParseErr;
 use flat::{put_accept, put_attach_detach, put_demand, shown_downlinks, shown_uplinks};
 use message_writers::{write_accept, write_attach_detach, write_demand};
 use messages::d_attach_detach_group_identity::DAttachDetachGroupIdentity;
 use messages::d_location_update_accept::DLocationUpdateAccept;
 use messages::u_location_update_demand::ULocationUpdateDemand;
-use messages::{ACCEPT, ATTACH_DETACH, DEMAND, SKIPPING, STRICT, Verdict, Writing, is_good_call};
+use messages::{ACCEPT, ATTACH_DETACH, DEMAND, SKIPPING, STRICT, Writing, is_good_call};
 
 // Reads a demand in a window that passed question 1 into a buffer.
 fn demand_into(octets: &[u8], c: Cursor, skipping: bool, flat: &mut [u8]) -> u64
@@ -29,8 +28,8 @@ fn demand_into(octets: &[u8], c: Cursor, skipping: bool, flat: &mut [u8]) -> u64
 {
     let a = ULocationUpdateDemand::from_bitbuf(c, octets, skipping);
     let v = a.verdict;
-    let Skipped::Count(n, c1) = v else {
-        return v.refusal() as u64;
+    let Ok((n, c1)) = v else {
+        return v.unwrap_err().number() as u64;
     };
     let own = a.record;
     let location = own.group_identity_location_demand;
@@ -38,7 +37,7 @@ fn demand_into(octets: &[u8], c: Cursor, skipping: bool, flat: &mut [u8]) -> u64
     let list = value.group_identity_uplink;
     let groups = shown_uplinks(location.present & list.present, list);
     if flat.len() < 371 + 46 * groups {
-        return WINDOW_TOO_SHORT as u64;
+        return PduParseErr::WindowTooShort.number() as u64;
     }
     put_demand(flat, n, own);
     64 * (c1.at - c.at) as u64
@@ -52,8 +51,8 @@ fn accept_into(octets: &[u8], c: Cursor, skipping: bool, flat: &mut [u8]) -> u64
 {
     let a = DLocationUpdateAccept::from_bitbuf(c, octets, skipping);
     let v = a.verdict;
-    let Skipped::Count(n, c1) = v else {
-        return v.refusal() as u64;
+    let Ok((n, c1)) = v else {
+        return v.unwrap_err().number() as u64;
     };
     let own = a.record;
     let location = own.group_identity_location_accept;
@@ -61,7 +60,7 @@ fn accept_into(octets: &[u8], c: Cursor, skipping: bool, flat: &mut [u8]) -> u64
     let list = value.group_identity_downlink;
     let groups = shown_downlinks(location.present & list.present, list);
     if flat.len() < 245 + 56 * groups {
-        return WINDOW_TOO_SHORT as u64;
+        return PduParseErr::WindowTooShort.number() as u64;
     }
     put_accept(flat, n, own);
     64 * (c1.at - c.at) as u64
@@ -75,14 +74,14 @@ fn attach_detach_into(octets: &[u8], c: Cursor, skipping: bool, flat: &mut [u8])
 {
     let a = DAttachDetachGroupIdentity::from_bitbuf(c, octets, skipping);
     let v = a.verdict;
-    let Skipped::Count(n, c1) = v else {
-        return v.refusal() as u64;
+    let Ok((n, c1)) = v else {
+        return v.unwrap_err().number() as u64;
     };
     let own = a.record;
     let list = own.group_identity_downlink;
     let groups = shown_downlinks(list.present, list);
     if flat.len() < 108 + 56 * groups {
-        return WINDOW_TOO_SHORT as u64;
+        return PduParseErr::WindowTooShort.number() as u64;
     }
     put_attach_detach(flat, n, own);
     64 * (c1.at - c.at) as u64
@@ -113,7 +112,7 @@ pub fn tetra_mm_read(
         }
         return attach_detach_into(octets, c, skipping, flat);
     }
-    BAD_CALL as u64
+    PduParseErr::BadCall.number() as u64
 }
 
 // 64 × the bits written, plus the refusal's number.
@@ -121,11 +120,10 @@ fn result_of(w: Writing) -> u64
     requires { w.written ≤ 32768 }
     ensures { result ≡ writing_result w }
 {
-    let v = w.verdict;
-    let Verdict::Refused(n) = v else {
-        return 64 * w.written as u64;
-    };
-    n as u64
+    match w.verdict {
+        Ok(()) => 64 * w.written as u64,
+        Err(e) => e.number() as u64,
+    }
 }
 
 // Rewrites a demand.
@@ -147,13 +145,13 @@ fn rewrite_demand(
         };
         let a = ULocationUpdateDemand::from_bitbuf(c, octets, false);
         let v = a.verdict;
-        let Skipped::Count(_, _) = v else {
-            return v.refusal() as u64;
+        let Ok(_) = v else {
+            return v.unwrap_err().number() as u64;
         };
         let own = a.record;
         return result_of(write_demand(out, out_first, out_end, own));
     }
-    BAD_CALL as u64
+    PduParseErr::BadCall.number() as u64
 }
 
 // Rewrites an accept.
@@ -175,13 +173,13 @@ fn rewrite_accept(
         };
         let a = DLocationUpdateAccept::from_bitbuf(c, octets, false);
         let v = a.verdict;
-        let Skipped::Count(_, _) = v else {
-            return v.refusal() as u64;
+        let Ok(_) = v else {
+            return v.unwrap_err().number() as u64;
         };
         let own = a.record;
         return result_of(write_accept(out, out_first, out_end, own));
     }
-    BAD_CALL as u64
+    PduParseErr::BadCall.number() as u64
 }
 
 // Rewrites an attach/detach.
@@ -203,13 +201,13 @@ fn rewrite_attach_detach(
         };
         let a = DAttachDetachGroupIdentity::from_bitbuf(c, octets, false);
         let v = a.verdict;
-        let Skipped::Count(_, _) = v else {
-            return v.refusal() as u64;
+        let Ok(_) = v else {
+            return v.unwrap_err().number() as u64;
         };
         let own = a.record;
         return result_of(write_attach_detach(out, out_first, out_end, own));
     }
-    BAD_CALL as u64
+    PduParseErr::BadCall.number() as u64
 }
 
 // A rewriting: the strict reading in one window, and its record written to a second; 64 × the bits written, plus the number of
@@ -239,5 +237,5 @@ pub fn tetra_mm_rewrite(
     if message == ATTACH_DETACH {
         return rewrite_attach_detach(octets, f, e, out, g, h);
     }
-    BAD_CALL as u64
+    PduParseErr::BadCall.number() as u64
 }

@@ -10,9 +10,8 @@ ghost use Rattle.messages.specs.Calls.{of_demand, of_accept, of_attach_detach, r
 ghost use Rattle.measure.specs.Measured.{value_or_refusal, consumed_and_refusal};
 ghost use Rattle.measure.specs.Repeated.{repeated};
 
-use bits::bitbuffer::{Cursor, Field};
-use bits::pdu_parse_error::BAD_CALL;
-use elements::typed_pdu_fields::Skipped;
+use bits::bitbuffer::Cursor;
+use bits::pdu_parse_error::PduParseErr;
 use message_writers::{write_accept, write_attach_detach, write_demand};
 use messages::d_attach_detach_group_identity::DAttachDetachGroupIdentity;
 use messages::d_location_update_accept::DLocationUpdateAccept;
@@ -25,10 +24,9 @@ pub extern "C" fn measure_read(octets: &[u8], at: usize, end: usize, width: usiz
     ensures { result ≡ value_or_refusal (atCursor (word 64 width) octets.now (record { at = at; end = end })) }
 {
     let c = Cursor { at, end };
-    let f = c.read(octets, width);
-    match f {
-        Field::Value(v, _) => v,
-        Field::Refused(n) => n as u64,
+    match c.read::<u64>(octets, width) {
+        Ok((v, _)) => v,
+        Err(e) => e.number() as u64,
     }
 }
 
@@ -45,8 +43,10 @@ pub extern "C" fn measure_write(
     ensures octets { octets.new ≡ (write_field width value octets.old (record { at = at; end = end })).octets }
 {
     let c = Cursor { at, end };
-    let m = c.write(octets, value, width);
-    m.refusal() as u64
+    match c.write(octets, value, width) {
+        Ok(_) => 0,
+        Err(e) => e.number() as u64,
+    }
 }
 
 // A message read: 64 times the bits consumed plus the refusal's number. The record is made and left behind: each message's reader
@@ -62,12 +62,12 @@ pub extern "C" fn measure_read_demand(octets: &[u8], first: usize, end: usize, w
         };
         let a = ULocationUpdateDemand::from_bitbuf(c, octets, wanted == SKIPPING);
         let v = a.verdict;
-        let Skipped::Count(_, c1) = v else {
-            return v.refusal() as u64;
+        let Ok((_, c1)) = v else {
+            return v.unwrap_err().number() as u64;
         };
         return 64 * (c1.at - first) as u64;
     }
-    BAD_CALL as u64
+    PduParseErr::BadCall.number() as u64
 }
 
 #[unsafe(no_mangle)]
@@ -81,12 +81,12 @@ pub extern "C" fn measure_read_accept(octets: &[u8], first: usize, end: usize, w
         };
         let a = DLocationUpdateAccept::from_bitbuf(c, octets, wanted == SKIPPING);
         let v = a.verdict;
-        let Skipped::Count(_, c1) = v else {
-            return v.refusal() as u64;
+        let Ok((_, c1)) = v else {
+            return v.unwrap_err().number() as u64;
         };
         return 64 * (c1.at - first) as u64;
     }
-    BAD_CALL as u64
+    PduParseErr::BadCall.number() as u64
 }
 
 #[unsafe(no_mangle)]
@@ -105,12 +105,12 @@ pub extern "C" fn measure_read_attach_detach(
         };
         let a = DAttachDetachGroupIdentity::from_bitbuf(c, octets, wanted == SKIPPING);
         let v = a.verdict;
-        let Skipped::Count(_, c1) = v else {
-            return v.refusal() as u64;
+        let Ok((_, c1)) = v else {
+            return v.unwrap_err().number() as u64;
         };
         return 64 * (c1.at - first) as u64;
     }
-    BAD_CALL as u64
+    PduParseErr::BadCall.number() as u64
 }
 
 // The record of a message read, from which the messages below are written.
@@ -184,11 +184,9 @@ pub extern "C" fn measure_writes_demand(
     ensures octets { octets.new ≡ (repeated u_location_update_demand_type first end (of_demand d) times octets.old).octets }
 {
     let mut bits: u64 = 0;
-    let mut i: usize = 0;
-    while i < times {
+    for _ in 0..times {
         let w = write_demand(octets, first, end, d);
         bits = w.written as u64;
-        i += 1;
     }
     bits
 }
@@ -205,11 +203,9 @@ pub extern "C" fn measure_writes_accept(
     ensures octets { octets.new ≡ (repeated d_location_update_accept_type first end (of_accept d) times octets.old).octets }
 {
     let mut bits: u64 = 0;
-    let mut i: usize = 0;
-    while i < times {
+    for _ in 0..times {
         let w = write_accept(octets, first, end, d);
         bits = w.written as u64;
-        i += 1;
     }
     bits
 }
@@ -226,11 +222,9 @@ pub extern "C" fn measure_writes_attach_detach(
     ensures octets { octets.new ≡ (repeated d_attach_detach_group_identity_type first end (of_attach_detach d) times octets.old).octets }
 {
     let mut bits: u64 = 0;
-    let mut i: usize = 0;
-    while i < times {
+    for _ in 0..times {
         let w = write_attach_detach(octets, first, end, d);
         bits = w.written as u64;
-        i += 1;
     }
     bits
 }

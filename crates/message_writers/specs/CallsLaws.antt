@@ -1,5 +1,5 @@
 -- A message written at the front of a window, and the answer of the writing call.
-use Prim.Native.Nat.{ℕ, zero, suc, ◌+◌, ◌-◌, ◌≤◌}
+use Prim.Native.Nat.{ℕ, ◌+◌, ◌-◌, ◌≤◌}
 use native.Mathlib.Omega.{arith}
 use Rattle.std.specs.Prelude.{◌≡◌, true, false, List, eqb}
 use Rattle.std.proofs.Math.Path.{refl}
@@ -18,7 +18,8 @@ use Rattle.messages.proofs.PlacedCalls.{good_window_lem}
 use Rattle.messages.proofs.RoundTrip.{passed}
 use Rattle.messages.specs.declared.Record.{Record}
 use Rattle.messages.specs.declared.Writing.{Writing}
-use Rattle.messages.specs.declared.Verdict.TheVariants.{Accepted, Refused}
+use Rattle.std.specs.Prelude.{Option, None, Some, Ok, Err}
+use Rattle.bits.specs.declared.pdu_parse_error.PduParseErr.{PduParseErr}
 use Rattle.message_writers.specs.Writes.{written_by, write_message}
 
 -- the place is not before `first`
@@ -28,8 +29,8 @@ Behind first (halted n) = Unit
 
 -- the answer of what was written from `first` on
 abbrev pub writing_by : ℕ → Placed Unit → Writing
-writing_by first (placed z c) = record { verdict = Accepted; written = c.at - first }
-writing_by first (halted n) = record { verdict = Refused n; written = 0 }
+writing_by first (placed z c) = record { verdict = Ok tt; written = c.at - first }
+writing_by first (halted n) = record { verdict = Err n; written = 0 }
 
 module _ (m : ℕ) (os : List ℕ) (first end : ℕ) (r : Record) where
   abbrev asked : Asked
@@ -41,7 +42,7 @@ module _ (m : ℕ) (os : List ℕ) (first end : ℕ) (r : Record) where
   abbrev window : Cursor
   window = record { at = first; end = end }
 
-  abbrev refusal_number : ℕ
+  abbrev refusal_number : Option PduParseErr
   refusal_number = writing_refusal m (length os) first end r
 
   -- what a message's writer gives is the call's answer, and its octets
@@ -50,13 +51,13 @@ module _ (m : ℕ) (os : List ℕ) (first end : ℕ) (r : Record) where
     pub answer : writing_by first v.answer ≡ writing m os first end r
     pub octets : v.octets ≡ octets_written m os first end r
 
-  call_taken : refusal_number ≡ 0 → Call (record { octets = put_bits os first bits; answer = placed tt (record { at = first + length bits; end = end }) })
+  call_taken : refusal_number ≡ None → Call (record { octets = put_bits os first bits; answer = placed tt (record { at = first + length bits; end = end }) })
   unfolding writing octets_written
   call_taken z =
       let n : first + length bits - first ≡ length bits = omega arith in
       record { behind = omega arith; answer = rw (z, n); octets = rw z }
 
-  call_refused : (k : ℕ) → refusal_number ≡ suc k → Call (record { octets = os; answer = halted (suc k) })
+  call_refused : (k : PduParseErr) → refusal_number ≡ Some k → Call (record { octets = os; answer = halted k })
   unfolding writing octets_written
   call_refused k z = record { behind = tt; answer = rw z; octets = rw z }
 
@@ -71,21 +72,21 @@ module _ (m : ℕ) (os : List ℕ) (first end : ℕ) (r : Record) where
   unfolding write_message
   call_made g = go (first_no asked (length bits) (left (length os) window)) refl
     where
-      go : (n : ℕ) → first_no asked (length bits) (left (length os) window) ≡ n → Call (written_by n bits os window)
-      go zero q = rw (write-there bits os window (passed asked (length bits) (left (length os) window) q).enough) (call_taken (number g ∙ q))
-      go (suc k) q = call_refused k (number g ∙ q)
+      go : (n : Option PduParseErr) → first_no asked (length bits) (left (length os) window) ≡ n → Call (written_by n bits os window)
+      go None q = rw (write-there bits os window (passed asked (length bits) (left (length os) window) q).enough) (call_taken (number g ∙ q))
+      go (Some k) q = call_refused k (number g ∙ q)
 
   -- A GOOD CALL, for the message x
   pub good_write : (x : Message) → message_of m ≡ x → good_call m 0 (length os) first end ≡ true
       → {v : Written} → v ≡ write_message (message_asked x r) (message_bits x r) os window → Call v
   good_write x e g {v} w = let here : v ≡ write_message asked bits os window = rw e w in rw here (call_made g)
 
-  pub bad_write : good_call m 0 (length os) first end ≡ false → (writing_of bad_call 0 ≡ writing m os first end r) × (os ≡ octets_written m os first end r)
+  pub bad_write : good_call m 0 (length os) first end ≡ false → (writing_of (Some bad_call) 0 ≡ writing m os first end r) × (os ≡ octets_written m os first end r)
   unfolding writing octets_written writing_refusal good_call
   bad_write g = (rw g, rw g)
 
   -- a message that is none of the three
   pub unknown_write : eqb m u_location_update_demand_type ≡ false → eqb m d_location_update_accept_type ≡ false → eqb m d_attach_detach_group_identity_type ≡ false
-      → (writing_of bad_call 0 ≡ writing m os first end r) × (os ≡ octets_written m os first end r)
+      → (writing_of (Some bad_call) 0 ≡ writing m os first end r) × (os ≡ octets_written m os first end r)
   unfolding writing octets_written writing_refusal known
   unknown_write d a t = (rw (d, a, t), rw (d, a, t))

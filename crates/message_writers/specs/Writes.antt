@@ -1,24 +1,25 @@
 -- A message written at a cursor: the questions first, then its bits.
-use Rattle.std.specs.Prelude.{ℕ, zero, suc, ◌≡◌, true, List, length}
+use Rattle.std.specs.Prelude.{ℕ, ◌≡◌, true, List, length, Option, None, Some}
 use Rattle.bits.specs.Bits.{Bits}
 use Rattle.bits.specs.Placed.{Placed, placed, halted, left}
 use Rattle.bits.specs.Written.{Written, write, unwritten}
+use Rattle.bits.specs.declared.pdu_parse_error.PduParseErr.{PduParseErr}
 use Rattle.bits.specs.declared.bitbuffer.Cursor.{Cursor}
 use Rattle.messages.specs.Questions.{Asked, first_no}
 use Rattle.message_writers.specs.declared.questions.Answers.{Answers}
 
-abbrev pub written_by : ℕ → Bits → List ℕ → Cursor → Written
-written_by zero xs os c = write xs os c
-written_by (suc n) xs os c = unwritten (suc n) os
+abbrev pub written_by : Option PduParseErr → Bits → List ℕ → Cursor → Written
+written_by None xs os c = write xs os c
+written_by (Some e) xs os c = unwritten e os
 
 -- A MESSAGE WRITTEN: the first question that is answered with no refuses it; else its bits stand at the cursor
 unfoldable pub write_message : Asked → Bits → List ℕ → Cursor → Written
 write_message a xs os c = written_by (first_no a (length xs) (left (length os) c)) xs os c
 
 -- where its first bit stands; nowhere behind a refusal
-abbrev pub begun : ℕ → Cursor → Placed Unit
-begun zero c = placed tt c
-begun (suc n) c = halted (suc n)
+abbrev pub begun : Option PduParseErr → Cursor → Placed Unit
+begun None c = placed tt c
+begun (Some e) c = halted e
 
 abbrev pub as_asked : Answers → Asked
 as_asked r = record {

@@ -1,6 +1,8 @@
 -- Laws of a message that is written: the questions by the answers that the code gives, and the bits in parts.
-use Prim.Native.Nat.{ℕ, zero, suc, ◌+◌}
-use Rattle.std.proofs.Common.{arith, sym, ap, ◌∙◌, length-append, le-leb, ne_eqb}
+use Prim.Native.Nat.{ℕ, ◌+◌}
+use Rattle.std.specs.Prelude.{Option, None, Some}
+use Rattle.bits.specs.declared.pdu_parse_error.PduParseErr.{PduParseErr}
+use Rattle.std.proofs.Common.{arith, sym, ap, ◌∙◌, length-append, le-leb}
 use Rattle.std.specs.Prelude.{◌≡◌, Bool, true, false, cond, ◌&&◌, List, [], ◌∷◌, ◌++◌, length, is_some, option_map}
 use Rattle.std.proofs.Math.Path.{refl}
 use Rattle.std.proofs.Math.Bool.{and_assoc}
@@ -42,33 +44,33 @@ pub record Asking (a : Asked) (xs : Bits) (os : List ℕ) (c : Cursor) (p : Plac
 -- by the answers
 pub asking : {a : Asked} {xs : Bits} {r : Answers} → Answered a xs r → (os : List ℕ) (c : Cursor) (p : Place)
     → as_place p ≡ begun (first_no (as_asked r) r.size (left (length os) c)) c → Asking a xs os c p
-asking q os c p e = record { begins = e ∙ ap (λ (n : ℕ). begun n c) (first-is q (left (length os) c)) }
+asking q os c p e = record { begins = e ∙ ap (λ (n : Option PduParseErr). begun n c) (first-is q (left (length os) c)) }
 
 module _ {a : Asked} {xs : Bits} {os : List ℕ} {c : Cursor} {p : Place} (q : Asking a xs os c p) where
-  none_refused : p.halt ≡ 0 → first_no a (length xs) (left (length os) c) ≡ 0
+  none_refused : p.halt ≡ None → first_no a (length xs) (left (length os) c) ≡ None
   none_refused z = go (first_no a (length xs) (left (length os) c)) q.begins
     where
-      go : (n : ℕ) → as_place p ≡ begun n c → n ≡ 0
-      go zero e = refl
-      go (suc n) e = halted-placed (sym (rw z at e))
+      go : (n : Option PduParseErr) → as_place p ≡ begun n c → n ≡ None
+      go None e = refl
+      go (Some n) e = halted-placed (sym (rw z at e))
 
-  pub all-passed : p.halt ≡ 0 → Passed a (length xs) (left (length os) c)
+  pub all-passed : p.halt ≡ None → Passed a (length xs) (left (length os) c)
   all-passed z = passed a (length xs) (left (length os) c) (none_refused z)
 
   -- THE MESSAGE IS WRITTEN, in parts
-  pub message-written : {xss : List Bits} {v : Written} → Octets os → p.halt ≡ 0 → joined xss ≡ xs → Puts xss (written os (as_place p)) v
+  pub message-written : {xss : List Bits} {v : Written} → Octets os → p.halt ≡ None → joined xss ≡ xs → Puts xss (written os (as_place p)) v
       → v ≡ write_message a xs os c
   unfolding write_message
   message-written o z e w =
       rw (none_refused z) (all-put {b = true} xs o refl (sym (le-leb _ _ (all-passed z).enough)) refl e (rw (q.begins, none_refused z) at w))
 
-  pub message-refused : (p.halt ≡ 0 → ⊥) → written os (as_place p) ≡ write_message a xs os c
+  pub message-refused : {k : PduParseErr} → p.halt ≡ Some k → written os (as_place p) ≡ write_message a xs os c
   unfolding write_message
   message-refused n = rw q.begins (go (first_no a (length xs) (left (length os) c)) q.begins)
     where
-      go : (j : ℕ) → as_place p ≡ begun j c → written os (begun j c) ≡ written_by j xs os c
-      go zero e = halted-placed (rw (ne_eqb p.halt 0 n) at e)
-      go (suc j) e = refl
+      go : (j : Option PduParseErr) → as_place p ≡ begun j c → written os (begun j c) ≡ written_by j xs os c
+      go None e = halted-placed (rw n at e)
+      go (Some j) e = refl
 
 pub bit-one : (b : Bool) → bit b ≡ 1 → b ≡ true
 bit-one true e = refl

@@ -114,15 +114,15 @@ pub fn to_bitbuf(d: DAttachDetachGroupIdentity, c: Cursor, octets: &mut [u8]) ->
     let a = ask_downlinks(list);
     let answers = ask(d, a);
     let place = answers.start(c, octets.len());
-    if place.halt == 0 {
-        let h = head_of(d);
-        let m = place.put(octets, front(h));
-        if h.obit == 1 {
-            let p = d.proprietary;
-            let g = d.group_report_response;
-            return put_elements(m, octets, p, g, list, a.size);
-        }
-        return m;
+    let None = place.halt else {
+        return place;
+    };
+    let h = head_of(d);
+    let m = place.put(octets, front(h));
+    if h.obit == 1 {
+        let p = d.proprietary;
+        let g = d.group_report_response;
+        return put_elements(m, octets, p, g, list, a.size);
     }
-    place
+    m
 }

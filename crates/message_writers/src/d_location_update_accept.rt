@@ -234,14 +234,14 @@ pub fn to_bitbuf(d: DLocationUpdateAccept, c: Cursor, octets: &mut [u8]) -> Plac
     let asked = ask_location_accept(location);
     let answers = ask(h, rest, location.present, asked, g);
     let place = answers.start(c, octets.len());
-    if place.halt == 0 {
-        let m = place.put(octets, front(h));
-        if h.obit == 1 {
-            let options = h.options;
-            let security = rest.security_downlink;
-            return put_behind(m, octets, options, security, location, asked, g);
-        }
-        return m;
+    let None = place.halt else {
+        return place;
+    };
+    let m = place.put(octets, front(h));
+    if h.obit == 1 {
+        let options = h.options;
+        let security = rest.security_downlink;
+        return put_behind(m, octets, options, security, location, asked, g);
     }
-    place
+    m
 }

@@ -15,35 +15,35 @@ ghost use Rattle.messages.specs.Calls.{of_demand, of_accept, of_attach_detach, w
 ghost use Rattle.message_writers.specs.CallsLaws.{Behind, writing_by};
 
 use bits::bitbuffer::{Cursor, Place};
-use bits::pdu_parse_error::BAD_CALL;
+use bits::pdu_parse_error::PduParseErr;
 use messages::d_attach_detach_group_identity::DAttachDetachGroupIdentity;
 use messages::d_location_update_accept::DLocationUpdateAccept;
 use messages::u_location_update_demand::ULocationUpdateDemand;
-use messages::{ACCEPT, ATTACH_DETACH, DEMAND, Record, STRICT, Verdict, Writing, is_good_call};
+use messages::{ACCEPT, ATTACH_DETACH, DEMAND, Record, STRICT, Writing, is_good_call};
 
 // The answer of what was written from `first` on.
 fn answered(first: usize, m: Place) -> Writing
     requires { Behind first (as_place m) }
     ensures { result ≡ writing_by first (as_place m) }
 {
-    if m.halt == 0 {
-        return Writing {
-            verdict: Verdict::Accepted,
+    match m.halt {
+        None => Writing {
+            verdict: Ok(()),
             written: m.at - first,
-        };
-    }
-    Writing {
-        verdict: Verdict::Refused((m.halt % 256) as u8),
-        written: 0,
+        },
+        Some(e) => Writing {
+            verdict: Err(e),
+            written: 0,
+        },
     }
 }
 
 // The answer of a call that does not pass question 1.
 fn refused() -> Writing
-    ensures { result ≡ writing_of bad_call 0 }
+    ensures { result ≡ writing_of (Some bad_call) 0 }
 {
     Writing {
-        verdict: Verdict::Refused(BAD_CALL),
+        verdict: Err(PduParseErr::BadCall),
         written: 0,
     }
 }

@@ -1,14 +1,12 @@
 // The questions of a writing call (document 01, 'A writing call'), each over the whole record.
 ghost use Rattle.std.specs.Prelude.{◌≡◌, ℕ, leb};
+ghost use Rattle.std.specs.Result.{result_err};
 ghost use Rattle.bits.specs.Placed.{as_place, left};
 ghost use Rattle.messages.specs.Questions.{first_no};
 ghost use Rattle.message_writers.specs.Writes.{as_asked, begun};
 
 use bits::bitbuffer::{Cursor, Place};
-use bits::pdu_parse_error::{
-    ADDRESS_FORM_UNLISTED, CIPHERING_MISMATCH, FRAME_MISSING, LENGTH_TOO_LARGE, NOT_ONE_ATTACHMENT,
-    STAY_ALIVE_WITH_FRAME, TYPE4_NOT_WRITTEN, VALUE_TOO_LARGE, WINDOW_TOO_SHORT,
-};
+use bits::pdu_parse_error::PduParseErr;
 
 // The answers to questions 8 to 15, and how many bits the message has.
 #[derive(Clone, Copy)]
@@ -25,38 +23,38 @@ pub struct Answers {
 }
 
 impl Answers {
-    // The first question that is answered with no, 0 if there is none; `room` answers the last one.
-    fn first_no(self, room: bool) -> u8
-        ensures { (n m : ℕ) → room ≡ leb n m → result ≡ first_no (as_asked self) n m }
+    // The first question that is answered with no, if there is one; `room` answers the last one.
+    fn first_no(self, room: bool) -> Result<(), PduParseErr>
+        ensures { (n m : ℕ) → room ≡ leb n m → result_err result ≡ first_no (as_asked self) n m }
     {
-        if self.fits {
-            if self.ciphered {
-                if self.attached {
-                    if self.formed {
-                        if self.alive {
-                            if self.saving {
-                                if self.type3_only {
-                                    if self.short {
-                                        if room {
-                                            return 0;
-                                        }
-                                        return WINDOW_TOO_SHORT;
-                                    }
-                                    return LENGTH_TOO_LARGE;
-                                }
-                                return TYPE4_NOT_WRITTEN;
-                            }
-                            return FRAME_MISSING;
-                        }
-                        return STAY_ALIVE_WITH_FRAME;
-                    }
-                    return ADDRESS_FORM_UNLISTED;
-                }
-                return NOT_ONE_ATTACHMENT;
-            }
-            return CIPHERING_MISMATCH;
+        if !self.fits {
+            return Err(PduParseErr::ValueTooLarge);
         }
-        VALUE_TOO_LARGE
+        if !self.ciphered {
+            return Err(PduParseErr::CipheringMismatch);
+        }
+        if !self.attached {
+            return Err(PduParseErr::NotOneAttachment);
+        }
+        if !self.formed {
+            return Err(PduParseErr::AddressFormUnlisted);
+        }
+        if !self.alive {
+            return Err(PduParseErr::StayAliveWithFrame);
+        }
+        if !self.saving {
+            return Err(PduParseErr::FrameMissing);
+        }
+        if !self.type3_only {
+            return Err(PduParseErr::Type4NotWritten);
+        }
+        if !self.short {
+            return Err(PduParseErr::LengthTooLarge);
+        }
+        if !room {
+            return Err(PduParseErr::WindowTooShort);
+        }
+        Ok(())
     }
 
     // Where the message begins, in `len` octets: at the cursor, or nowhere if a question is answered with no.
@@ -66,12 +64,11 @@ impl Answers {
         let place = Place {
             at: c.at,
             end: c.end,
-            halt: 0,
+            halt: None,
         };
-        let n = self.first_no(place.has(len, self.size));
-        if n == 0 {
+        let Err(e) = self.first_no(place.has(len, self.size)) else {
             return place;
-        }
-        place.refuse(n)
+        };
+        place.refuse(e)
     }
 }

@@ -221,13 +221,13 @@ fn write_more(d: ULocationUpdateDemand, h: DemandHead, c: Cursor, octets: &mut [
     let asked = ask_location_demand(location);
     let answers = ask(h, location.present, asked, g);
     let place = answers.start(c, octets.len());
-    if place.halt == 0 {
-        if location.present {
-            return put_located(place, octets, h, location, asked, g);
-        }
-        return put_unlocated(place, octets, h, g);
+    let None = place.halt else {
+        return place;
+    };
+    if location.present {
+        return put_located(place, octets, h, location, asked, g);
     }
-    place
+    put_unlocated(place, octets, h, g)
 }
 
 // A message that ends with its O-bit.
@@ -247,10 +247,10 @@ fn write_alone(h: DemandHead, c: Cursor, octets: &mut [u8]) -> Place
         size: 10 + width_if(ciphering.present, 10),
     };
     let place = answers.start(c, octets.len());
-    if place.halt == 0 {
-        return place.put(octets, front(h));
-    }
-    place
+    let None = place.halt else {
+        return place;
+    };
+    place.put(octets, front(h))
 }
 
 // The message, if it passes the questions; a refusal changes nothing.

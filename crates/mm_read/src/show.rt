@@ -3,6 +3,7 @@
 ghost use Rattle.std.specs.Prelude.{◌≤◌};
 
 use crate::call::{Call, Fault};
+use bits::pdu_parse_error::PduParseErr;
 use elements::class_of_ms::OptionalClassOfMs;
 use elements::energy_saving_information::OptionalEnergySavingInformation;
 use elements::group_identity_downlink::{GroupIdentityDownlink, OptionalDownlinks};
@@ -13,7 +14,7 @@ use elements::typed_pdu_fields::{OptionalType3, OptionalType4};
 use messages::d_attach_detach_group_identity::DAttachDetachGroupIdentity;
 use messages::d_location_update_accept::DLocationUpdateAccept;
 use messages::u_location_update_demand::ULocationUpdateDemand;
-use messages::{ACCEPT, DEMAND, Reading, Record, Verdict};
+use messages::{ACCEPT, DEMAND, Reading, Record};
 use std::{fmt, io};
 
 // A line of a field.
@@ -410,17 +411,17 @@ fn record(rt: &impl Print, message: u64, held: Record) -> io::Result<()> {
     }
 }
 
-// The refusals, as document 01's questions have them; `Verdict` gives their numbers.
-fn meaning(refusal: u8) -> &'static str {
+// A reading's refusals, as document 01's questions have them.
+fn meaning(refusal: PduParseErr) -> &'static str {
     match refusal {
-        1 =>
+        PduParseErr::BadCall =>
             "the message is not known, there are more than 4,096 octets, or not first <= end <= 8 x octets",
-        2 => "a field, an identifier or skipped content does not end inside the window",
-        3 => "the 4-bit type is not the message's own",
-        4 => "the reserved bit of the location demand is not 0",
-        5 => "a type 4 length, which counts the 6 bits of its number of entries, is below 6",
-        6 => "a structure or a group list does not end where its length said",
-        7 => "the closing M-bit is not 0",
+        PduParseErr::BufferEnded => "a field, an identifier or skipped content does not end inside the window",
+        PduParseErr::InvalidPduType => "the 4-bit type is not the message's own",
+        PduParseErr::InvalidValue => "the reserved bit of the location demand is not 0",
+        PduParseErr::Type4Underflow => "a type 4 length, which counts the 6 bits of its number of entries, is below 6",
+        PduParseErr::InconsistentLength => "a structure or a group list does not end where its length said",
+        PduParseErr::InvalidTrailingMbitValue => "the closing M-bit is not 0",
         _ => "no refusal of a reading",
     }
 }
@@ -428,14 +429,14 @@ fn meaning(refusal: u8) -> &'static str {
 // The answer of a call.
 pub(crate) fn reading(rt: &impl Print, message: u64, r: Reading) -> io::Result<()> {
     match r.verdict {
-        Verdict::Accepted => {
+        Ok(()) => {
             record(rt, message, r.record)?;
             field(rt, 1, "bits consumed", r.consumed)?;
             field(rt, 1, "elements skipped", r.skipped)
         }
-        Verdict::Refused(n) => {
-            field(rt, 1, "refusal", n)?;
-            field(rt, 1, "meaning", meaning(n))?;
+        Err(e) => {
+            field(rt, 1, "refusal", e.number())?;
+            field(rt, 1, "meaning", meaning(e))?;
             field(rt, 1, "place", format_args!("bit {}", r.place))
         }
     }

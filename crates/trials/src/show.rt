@@ -10,7 +10,7 @@ use elements::typed_pdu_fields::{OptionalType3, OptionalType4};
 use messages::d_attach_detach_group_identity::DAttachDetachGroupIdentity;
 use messages::d_location_update_accept::DLocationUpdateAccept;
 use messages::u_location_update_demand::ULocationUpdateDemand;
-use messages::{ACCEPT, DEMAND, Record, SKIPPING, STRICT, Verdict, read};
+use messages::{ACCEPT, DEMAND, Record, SKIPPING, STRICT, read};
 use std::fmt::Display;
 use std::io;
 use std::ops::Range;
@@ -297,12 +297,12 @@ pub(crate) fn line(
 ) -> io::Result<()> {
     let r = read(octets, window.start, window.end, message, wanted);
     match r.verdict {
-        Verdict::Accepted => {
+        Ok(()) => {
             print!(rt; "{name}: consumed {} skipped {} |", r.consumed, r.skipped)?;
             record(rt, message, r.record)?;
             println!(rt)
         }
-        Verdict::Refused(n) => println!(rt; "{name}: refused {n}"),
+        Err(e) => println!(rt; "{name}: refused {}", e.number()),
     }
 }
 

@@ -10,15 +10,15 @@ use crate::values::{
 };
 use elements::group_identity_downlink::no_downlinks;
 use elements::group_identity_uplink::no_uplinks;
-use messages::{ACCEPT, DEMAND, STRICT, Verdict, read};
+use messages::{ACCEPT, DEMAND, STRICT, read};
 use std::io;
 
 // Octets that are read strictly; the record is written.
 fn as_read(rt: &impl Print, name: &str, octets: &[u8], end: usize, message: u64) -> io::Result<()> {
     let r = read(octets, 0, end, message, STRICT);
     match r.verdict {
-        Verdict::Accepted => line_512(rt, name, 0..4096, message, r.record),
-        Verdict::Refused(_) => println!(rt; "{name} | not read"),
+        Ok(()) => line_512(rt, name, 0..4096, message, r.record),
+        Err(_) => println!(rt; "{name} | not read"),
     }
 }
 

@@ -1,7 +1,7 @@
 // The line of a trial: its name, what was written or the refusal's number, and whether the other octets are kept.
 use crate::records::Message;
 use message_writers::write;
-use messages::{Record, Verdict};
+use messages::Record;
 use std::fmt::Display;
 use std::io;
 use std::ops::Range;
@@ -30,7 +30,7 @@ pub(crate) fn line(
     let first = window.start;
     let w = write(octets, first, window.end, message, held);
     match w.verdict {
-        Verdict::Accepted => {
+        Ok(()) => {
             let bits = w.written;
             let from = first / 8;
             let to = from + bits / 8 + (first % 8 + bits % 8 + 7) / 8;
@@ -40,8 +40,8 @@ pub(crate) fn line(
             }
             end_line(rt, octets, from..to)
         }
-        Verdict::Refused(n) => {
-            print!(rt; "{name} | refused {n}")?;
+        Err(e) => {
+            print!(rt; "{name} | refused {}", e.number())?;
             end_line(rt, octets, 0..0)
         }
     }

@@ -50,10 +50,12 @@ pub returns : goal.returns
 returns c =
     let a = c.args in
     let l = c.loop-i in
-    let d : ℕ = 8 * l.i - a.skip in
+    let whole : ℕ = (a.skip + a.width) / 8 in
+    let d : ℕ = 8 * whole - a.skip in
     let n : ℕ = (a.skip + a.width) % 8 in
     let e : d + n ≡ a.width = omega arith in
+    let at_end : l.i ≡ whole = omega arith in
     rw c.wide-2.ensures
-    (field-more a.part.now a.skip l.i d n (8 - n) l.value
-    (omega arith) (omega arith) (omega arith) (omega arith) (c.shared_slice_known-3-1.given l.i).fits l.invariant.2
+    (field-more a.part.now a.skip whole d n (8 - n) l.value
+    (omega arith) (omega arith) (omega arith) (omega arith) (c.shared_slice_known-3-1.given whole).fits (rw at_end at l.invariant.2)
     ∙ ap (field_at a.part.now a.skip) e)

@@ -6,6 +6,3 @@ use Rattle.bits.proofs.bitbuffer.gather.Given as goal
 
 abbrev pub invariant-loop-i : goal.invariant-loop-i
 invariant-loop-i l = (1 ≤ l.i) × (l.i ≤ l.whole) × (l.value ≡ field_at l.part l.skip (8 * l.i - l.skip))
-
-abbrev pub decreases-loop-i : goal.decreases-loop-i
-decreases-loop-i l = l.whole - l.i

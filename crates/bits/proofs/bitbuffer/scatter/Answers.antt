@@ -30,9 +30,9 @@ patch-requires-2 c =
     let e : a.width ≡ head + l = omega arith in
     (omega arith, shr_lt head l (subst (λ (n : ℕ). a.value < 2 ^ n) e c.requires.4))
 
-pub loop-left-init : goal.loop-left-init
+pub loop-i-init : goal.loop-i-init
 unfolding digits
-loop-left-init c =
+loop-i-init c =
     let a = c.args in
     let h : ℕ = 8 - a.skip in
     let l : ℕ = a.width - h in
@@ -48,10 +48,10 @@ loop-left-init c =
       sym (ap (λ (n : ℕ). put_bits os 8 (digits n x)) none ∙ put_bits-nil os 8 (rw first (octets-put_bits a.part.now a.skip (digits h x)))),
     )
 
-pub loop-left-preserved : goal.loop-left-preserved
-loop-left-preserved c =
+pub loop-i-preserved : goal.loop-i-preserved
+loop-i-preserved c =
     let a = c.args in
-    let l = c.loop-left in
+    let l = c.loop-i in
     let m : ℕ = l.left - 8 in
     let v : ℕ = a.value / 2 ^ m in
     let os₀ : List ℕ = set a.part.now 0 c.patch-2.result in
@@ -67,20 +67,22 @@ loop-left-preserved c =
 
 pub patch-requires-then-left-gt0 : goal.patch-requires-then-left-gt0
 patch-requires-then-left-gt0 c =
-    (omega arith, rw c.low.ensures (mod-lt _ (pow_pos c.loop-left.left)))
+    let at_end : c.loop-i.i ≡ (c.args.skip + c.args.width) / 8 = omega arith in
+    (omega arith, rw c.low.ensures (mod-lt _ (pow_pos c.loop-i.left)))
 
 pub returns-then-left-gt0 : goal.returns-then-left-gt0
 returns-then-left-gt0 c =
     let a = c.args in
-    let l = c.loop-left in
+    let l = c.loop-i in
     let v : ℕ = a.value in
     let n : ℕ = l.left in
     let w : ℕ = a.width - (8 - a.skip) in
+    let at_end : l.i ≡ (a.skip + a.width) / 8 = omega arith in
     let e : digits n c.low.result ≡ digits n (v / 2 ^ 0) =
     ap (digits n) c.low.ensures ∙ digits_mod n v ∙ ap (digits n) (sym (div-one v)) in
     put_rest a.part.now _ a.skip a.width v c.patch-2.result 0 (λ i. (c.slice_known-1.given i).fits)
     (omega arith) (omega arith) (omega arith) c.patch-2.ensures refl
-    (rw (c.patch-then-left-gt0.ensures, e)
+    (rw (c.patch-then-left-gt0.ensures, e, ← at_end)
     (put-more (set a.part.now 0 c.patch-2.result) l.part 8 w v l.i n n 0
     (omega arith) (omega arith) (omega arith) (omega arith) (omega arith) (omega arith) l.invariant.3))
 
@@ -90,7 +92,7 @@ shape_of-part-then-left-gt0 c = ap length (returns-then-left-gt0 c) ∙ length-p
 pub returns-else-left-gt0 : goal.returns-else-left-gt0
 returns-else-left-gt0 c =
     let a = c.args in
-    let l = c.loop-left in
+    let l = c.loop-i in
     put_rest a.part.now l.part a.skip a.width a.value c.patch-2.result l.left (λ i. (c.slice_known-1.given i).fits)
     (omega arith) (omega arith) (omega arith) c.patch-2.ensures (omega arith) l.invariant.3
 

@@ -6,9 +6,6 @@ use Rattle.bits.specs.Bits.{digits}
 use Rattle.bits.specs.Written.{put_bits}
 use Rattle.bits.proofs.bitbuffer.scatter.Given as goal
 
-abbrev pub invariant-loop-left : goal.invariant-loop-left
-invariant-loop-left l =
+abbrev pub invariant-loop-i : goal.invariant-loop-i
+invariant-loop-i l =
     (1 ≤ l.i) × (8 * l.i + l.left ≡ l.stop) × (l.stop ≤ 8 * length l.part) × (l.part ≡ put_bits l.initial.part 8 (digits (l.initial.left - l.left) (l.value / 2 ^ l.left)))
-
-abbrev pub decreases-loop-left : goal.decreases-loop-left
-decreases-loop-left l = l.left

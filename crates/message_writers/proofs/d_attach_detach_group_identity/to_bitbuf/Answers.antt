@@ -17,7 +17,7 @@ asked v =
 
 pub put_elements-requires : goal.put_elements-requires
 put_elements-requires c =
-    (attach_detach_generics_lem c.args.d (all-passed (asked ((goal.at.put_elements-requires c).After-start-place)).holds c.if-place-eq0.true).fits)
+    (attach_detach_generics_lem c.args.d (all-passed (asked ((goal.at.put_elements-requires c).After-start-place)).holds c.in-None.is).fits)
 
 pub returns-then-h-eq1 : goal.returns-then-h-eq1
 unfolding attach_detach_asked
@@ -25,18 +25,18 @@ returns-then-h-eq1 c =
     let a = c.args in
     let q = (asked ((goal.at.returns-then-h-eq1 c).After-start-place)).holds in
     let h = ap (λ (x : AttachDetachHead). x.obit) c.head_of-h.ensures in
-    message-written q (λ i. (c.slice_known-1.given i).fits) c.if-place-eq0.true ((attach_detach-in_parts a.d c.ask_downlinks-a.ensures.0 (all-passed q c.if-place-eq0.true).type3_only).all (bit-one _ (sym h ∙ c.if-h-eq1.true)))
+    message-written q (λ i. (c.slice_known-1.given i).fits) c.in-None.is ((attach_detach-in_parts a.d c.ask_downlinks-a.ensures.0 (all-passed q c.in-None.is).type3_only).all (bit-one _ (sym h ∙ c.if-h-eq1.true)))
     (field (rw c.head_of-h.ensures at c.front.ensures) (front-most (attach_detach_head_in a.d)) c.put-m.ensures ⨾ c.put_elements.ensures)
 
-pub returns-then-place-eq0 : goal.returns-then-place-eq0
+pub returns : goal.returns
 unfolding attach_detach_asked
-returns-then-place-eq0 c =
+returns c =
     let a = c.args in
-    let q = (asked ((goal.at.returns-then-place-eq0 c).After-start-place)).holds in
+    let q = (asked ((goal.at.returns c).After-start-place)).holds in
     let h = ap (λ (x : AttachDetachHead). x.obit) c.head_of-h.ensures in
-    message-written q (λ i. (c.slice_known-1.given i).fits) c.if-place-eq0.true ((attach_detach-in_parts a.d c.ask_downlinks-a.ensures.0 (all-passed q c.if-place-eq0.true).type3_only).alone (bit-other _ (λ e. c.if-h-eq1.false (h ∙ e))))
+    message-written q (λ i. (c.slice_known-1.given i).fits) c.in-None.is ((attach_detach-in_parts a.d c.ask_downlinks-a.ensures.0 (all-passed q c.in-None.is).type3_only).alone (bit-other _ (λ e. c.if-h-eq1.false (h ∙ e))))
     (field (rw c.head_of-h.ensures at c.front.ensures) (front-most (attach_detach_head_in a.d)) c.put-m.ensures)
 
-pub returns : goal.returns
-returns c =
-    message-refused (asked ((goal.at.returns c).After-start-place)).holds c.if-place-eq0.false
+pub returns-in_default : goal.returns-in_default
+returns-in_default c =
+    message-refused (asked ((goal.at.returns-in_default c).After-start-place)).holds c.in_default.is

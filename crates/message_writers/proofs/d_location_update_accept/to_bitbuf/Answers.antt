@@ -16,24 +16,24 @@ asked v =
 
 pub put_behind-requires : goal.put_behind-requires
 put_behind-requires c =
-    rw (c.rest_of-rest.ensures, c.generics_of-g.ensures) (accept-generics c.args.d (all-passed (asked ((goal.at.put_behind-requires c).After-start-place)).holds c.if-place-eq0.true).fits)
+    rw (c.rest_of-rest.ensures, c.generics_of-g.ensures) (accept-generics c.args.d (all-passed (asked ((goal.at.put_behind-requires c).After-start-place)).holds c.in-None.is).fits)
 
 pub returns-then-h-eq1 : goal.returns-then-h-eq1
 returns-then-h-eq1 c =
     let a = c.args in
     let q = (asked ((goal.at.returns-then-h-eq1 c).After-start-place)).holds in
     let h = ap (λ (x : AcceptHead). x.obit) c.head_of-h.ensures in
-    message-written q (λ i. (c.slice_known-1.given i).fits) c.if-place-eq0.true ((accept-in_parts a.d c.ask_location_accept-asked.ensures.0 (all-passed q c.if-place-eq0.true).type3_only).all (bit-one _ (sym h ∙ c.if-h-eq1.true)))
+    message-written q (λ i. (c.slice_known-1.given i).fits) c.in-None.is ((accept-in_parts a.d c.ask_location_accept-asked.ensures.0 (all-passed q c.in-None.is).type3_only).all (bit-one _ (sym h ∙ c.if-h-eq1.true)))
     (field (rw c.head_of-h.ensures at c.front.ensures) (front-most (accept_head_in a.d)) c.put-m.ensures ⨾ (rw (c.head_of-h.ensures, c.rest_of-rest.ensures, c.generics_of-g.ensures) at c.put_behind.ensures))
-
-pub returns-then-place-eq0 : goal.returns-then-place-eq0
-returns-then-place-eq0 c =
-    let a = c.args in
-    let q = (asked ((goal.at.returns-then-place-eq0 c).After-start-place)).holds in
-    let h = ap (λ (x : AcceptHead). x.obit) c.head_of-h.ensures in
-    message-written q (λ i. (c.slice_known-1.given i).fits) c.if-place-eq0.true ((accept-in_parts a.d c.ask_location_accept-asked.ensures.0 (all-passed q c.if-place-eq0.true).type3_only).alone (bit-other _ (λ e. c.if-h-eq1.false (h ∙ e))))
-    (field (rw c.head_of-h.ensures at c.front.ensures) (front-most (accept_head_in a.d)) c.put-m.ensures)
 
 pub returns : goal.returns
 returns c =
-    message-refused (asked ((goal.at.returns c).After-start-place)).holds c.if-place-eq0.false
+    let a = c.args in
+    let q = (asked ((goal.at.returns c).After-start-place)).holds in
+    let h = ap (λ (x : AcceptHead). x.obit) c.head_of-h.ensures in
+    message-written q (λ i. (c.slice_known-1.given i).fits) c.in-None.is ((accept-in_parts a.d c.ask_location_accept-asked.ensures.0 (all-passed q c.in-None.is).type3_only).alone (bit-other _ (λ e. c.if-h-eq1.false (h ∙ e))))
+    (field (rw c.head_of-h.ensures at c.front.ensures) (front-most (accept_head_in a.d)) c.put-m.ensures)
+
+pub returns-in_default : goal.returns-in_default
+returns-in_default c =
+    message-refused (asked ((goal.at.returns-in_default c).After-start-place)).holds c.in_default.is

@@ -16,12 +16,12 @@ asked v d e m =
     let a = v.args in
     fact (asking (rw (← v.head_fits.ensures, ← v.width_if.ensures.0) at (demand-alone-answered d a.h e m)) a.octets.now a.c v.start-place.result v.start-place.ensures)
 
-pub returns-then-place-eq0 : goal.returns-then-place-eq0
-returns-then-place-eq0 c =
-    λ d e m.
-    message-written (asked ((goal.at.returns-then-place-eq0 c).After-start-place) d e m).holds (λ i. (c.slice_known-1.given i).fits) c.if-place-eq0.true ((demand-in_parts d refl).alone m) (field (rw e at c.front.ensures) (front-most (demand_head_in d)) c.put.ensures)
-
 pub returns : goal.returns
 returns c =
     λ d e m.
-    message-refused (asked ((goal.at.returns c).After-start-place) d e m).holds c.if-place-eq0.false
+    message-written (asked ((goal.at.returns c).After-start-place) d e m).holds (λ i. (c.slice_known-1.given i).fits) c.in-None.is ((demand-in_parts d refl).alone m) (field (rw e at c.front.ensures) (front-most (demand_head_in d)) c.put.ensures)
+
+pub returns-in_default : goal.returns-in_default
+returns-in_default c =
+    λ d e m.
+    message-refused (asked ((goal.at.returns-in_default c).After-start-place) d e m).holds c.in_default.is
