@@ -32,7 +32,7 @@ use Rattle.messages.specs.declared.u_location_update_demand.ULocationUpdateDeman
 use Rattle.messages.specs.declared.Record.{Record}
 use Rattle.messages.specs.declared.Reading.{Reading}
 use Rattle.messages.specs.declared.Writing.{Writing}
-use Rattle.std.specs.Prelude.{Result, Ok, Err}
+use Rattle.std.specs.Prelude.{Ok, Err}
 
 pub data Row : Type 0 where
   -- message, reading, octets, first and end bit; the answer

@@ -10,18 +10,18 @@ use Rattle.bits.specs.PduParseError.{bad_call}
 use Rattle.bits.specs.Bits.{Bits}
 use Rattle.bits.specs.Reader.{Answer, got, refused}
 use Rattle.bits.specs.ReaderLaws.{zero_one}
-use Rattle.bits.specs.Placed.{window, Placed, placed, halted, at, refusal}
+use Rattle.bits.specs.Placed.{window, Placed, placed, halted, at}
 use Rattle.bits.specs.PlacedLaws.{told, told-not, length-window}
 use Rattle.bits.specs.declared.bitbuffer.Cursor.{Cursor}
 use Rattle.elements.proofs.NumbersLaws.{both}
-use Rattle.elements.specs.Table.{Counted, counted}
+use Rattle.elements.specs.Table.{Counted}
 use Rattle.elements.specs.Kinds.{Element, identifier_of, content}
 use Rattle.messages.proofs.FormatLaws.{message-made}
 use Rattle.messages.proofs.Demand3.{message_tail}
 use Rattle.messages.proofs.ReadBack.{messages_regular}
 use Rattle.messages.proofs.CallNumbers.{accepted-refused}
-use Rattle.messages.specs.Calls.{accepted, called, Message, demand, accept, attach_detach, message_of, format_of, read_message, known, octets_most, good_window, good_call, window_of, no_reading, reading_of, reading, behind, of_demand, of_accept, of_attach_detach}
-use Rattle.messages.specs.MessageAnswers.{message_answer}
+use Rattle.messages.specs.Calls.{accepted, called, Message, message_of, format_of, read_message, known, octets_most, good_window, good_call, window_of, no_reading, reading_of, reading, behind}
+use Rattle.messages.specs.MessageAnswers.{message_answer, Own}
 use Rattle.messages.specs.declared.MessageRead.{MessageRead}
 use Rattle.messages.specs.declared.Record.{Record}
 use Rattle.messages.specs.declared.Reading.{Reading}
@@ -31,8 +31,8 @@ use Rattle.bits.specs.declared.pdu_parse_error.PduParseErr.{PduParseErr}
 count-refused : {B : Type 0} {x : ℕ × Cursor} {e : PduParseErr} → ◌≡◌ {A = Result (ℕ × Cursor) PduParseErr} (Ok x) (Err e) → B
 count-refused e = zero_one (cc)
 
-ok-same : {n m : ℕ} {j k : Cursor} → ◌≡◌ {A = Result (ℕ × Cursor) PduParseErr} (Ok (n , j)) (Ok (m , k)) → (n ≡ m) × (j ≡ k)
-ok-same {n} {m} {j} {k} e = (ap (λ (r : Result (ℕ × Cursor) PduParseErr). (value_in (n , j) r).0) e, ap (λ (r : Result (ℕ × Cursor) PduParseErr). (value_in (n , j) r).1) e)
+ok-same : {n m : ℕ} {j k : Cursor} → ◌≡◌ {A = Result (ℕ × Cursor) PduParseErr} (Ok (n, j)) (Ok (m, k)) → (n ≡ m) × (j ≡ k)
+ok-same {n} {m} {j} {k} e = (ap (λ (r : Result (ℕ × Cursor) PduParseErr). (value_in (n, j) r).0) e, ap (λ (r : Result (ℕ × Cursor) PduParseErr). (value_in (n, j) r).1) e)
   where
     value_in : ℕ × Cursor → Result (ℕ × Cursor) PduParseErr → ℕ × Cursor
     value_in x (Ok y) = y
@@ -45,53 +45,38 @@ module _ (m : Message) where
   made_by P made b bs e =
       message-made identifier_of content (format_of m) (λ x. P x.value) b bs (λ h mid p o y r q. made h y.value) (λ h mid p o. made h _) e
 
-  -- a message's own record, taken out of the call's and put into one
-  pub record Own {R : Type 0} (own : Record → R) (of : R → Record) : Type 0 where
-    pub is : (h : (format_of m).Head) (vs : List (Option Element)) → of (own ((format_of m).finish h vs)) ≡ (format_of m).finish h vs
-
-  module _ {R : Type 0} {own : Record → R} {of : R → Record} (o : Own own of) (absent : R)
-      (b : Bool) (os : List ℕ) (c : Cursor) {y : MessageRead R} (e : y ≡ message_answer own absent (at (read_message m b) os c)) where
+  module _ {R : Type 0} {own : Record → R} {of : R → Record} (o : Own m own of)
+      (b : Bool) (os : List ℕ) (c : Cursor) {y : MessageRead R} (e : y ≡ message_answer own (at (read_message m b) os c)) where
     pub record Taken (n : ℕ) (k : Cursor) : Type 0 where
       pub on : c.at ≤ k.at
       pub answer : accepted c.at n k (of y.«record») ≡ called m b os c.at c.end
 
-    pub taken : {n : ℕ} {k : Cursor} → y.verdict ≡ Ok (n , k) → Taken n k
+    pub taken : {n : ℕ} {k : Cursor} → y.verdict ≡ Ok (n, k) → Taken n k
     taken {n} {k} v = go (at (read_message m b) os c) refl
       where
         go : (p : Placed (Counted Record)) → at (read_message m b) os c ≡ p → Taken n k
         go (placed x j) q =
-            let pair = ok-same (sym (ap (λ (y : MessageRead R). y.verdict) (e ∙ ap (message_answer own absent) q)) ∙ v) in
+            let pair = ok-same (sym (ap (λ (y : MessageRead R). y.verdict) (e ∙ ap (message_answer own) q)) ∙ v) in
             let count : x.skipped ≡ n = pair.0 in
             let same : j ≡ k = pair.1 in
             let t = told (message_tail identifier_of content (format_of m) (messages_regular m) b) {a = x} {k = k} (record { eq = q ∙ ap (placed x) same }) in
-            let mine : of y.«record» ≡ x.value = ap (λ (y : MessageRead R). of y.«record») (e ∙ ap (message_answer own absent) q)
+            let mine : of y.«record» ≡ x.value = ap (λ (y : MessageRead R). of y.«record») (e ∙ ap (message_answer own) q)
             ∙ made_by (λ r. of (own r) ≡ r) (λ h vs. o.is h vs) b (window os c) t.said in
             let consumed : k.at - c.at ≡ length (window os c) - length (window os k) = omega (arith, t.used, t.on) in
             let place : k.at ≡ c.at + (length (window os c) - length (window os k)) = omega (arith, t.used, t.on) in
             record { on = t.on; answer = rw t.said (rw (mine, ← count, ← place, ← consumed)) }
-        go (halted i) q = count-refused (sym v ∙ ap (λ (y : MessageRead R). y.verdict) (e ∙ ap (message_answer own absent) q))
+        go (halted i) q = count-refused (sym v ∙ ap (λ (y : MessageRead R). y.verdict) (e ∙ ap (message_answer own) q))
 
     -- a refusal
     pub not_taken : {n : PduParseErr} → y.verdict ≡ Err n → no_reading n c.at ≡ called m b os c.at c.end
     not_taken {n} v = go (at (read_message m b) os c) refl
       where
         go : (p : Placed (Counted Record)) → at (read_message m b) os c ≡ p → no_reading n c.at ≡ called m b os c.at c.end
-        go (placed x j) q = count-refused (sym (ap (λ (y : MessageRead R). y.verdict) (e ∙ ap (message_answer own absent) q)) ∙ v)
+        go (placed x j) q = count-refused (sym (ap (λ (y : MessageRead R). y.verdict) (e ∙ ap (message_answer own) q)) ∙ v)
         go (halted k) q =
-            let told_verdict : ◌≡◌ {A = Result (ℕ × Cursor) PduParseErr} (Err k) (Err n) = sym (ap (λ (y : MessageRead R). y.verdict) (e ∙ ap (message_answer own absent) q)) ∙ v in
+            let told_verdict : ◌≡◌ {A = Result (ℕ × Cursor) PduParseErr} (Err k) (Err n) = sym (ap (λ (y : MessageRead R). y.verdict) (e ∙ ap (message_answer own) q)) ∙ v in
             let same : k ≡ n = cc in
             rw (told-not (record { eq = q }), same)
-
--- ## the three messages
-
-pub own-demand : Own demand (λ r. r.demand) of_demand
-own-demand = record { is = λ h vs. refl }
-
-pub own-accept : Own accept (λ r. r.accept) of_accept
-own-accept = record { is = λ h vs. refl }
-
-pub own-attach_detach : Own attach_detach (λ r. r.attach_detach) of_attach_detach
-own-attach_detach = record { is = λ h vs. refl }
 
 -- ## the call
 
@@ -105,14 +90,14 @@ module _ (m how : ℕ) (os : List ℕ) (first end : ℕ) where
   bad_call_lem g = rw g
 
   -- A GOOD CALL, by the verdict of the message's reader
-  module _ {R : Type 0} {own : Record → R} {of : R → Record} (o : Own (message_of m) own of) (absent : R)
+  module _ {R : Type 0} {own : Record → R} {of : R → Record} (o : Own (message_of m) own of)
       (good : good_call m how (length os) first end ≡ true) {y : MessageRead R}
-      (e : y ≡ message_answer own absent (at (read_message (message_of m) (eqb how 1)) os (record { at = first; end = end }))) where
-    pub call_taken : {n : ℕ} {k : Cursor} → y.verdict ≡ Ok (n , k) → accepted first n k (of y.«record») ≡ reading m how os first end
-    call_taken v = (taken (message_of m) o absent (eqb how 1) os _ e v).answer ∙ good_call_lem (message_of m) refl good
+      (e : y ≡ message_answer own (at (read_message (message_of m) (eqb how 1)) os (record { at = first; end = end }))) where
+    pub call_taken : {n : ℕ} {k : Cursor} → y.verdict ≡ Ok (n, k) → accepted first n k (of y.«record») ≡ reading m how os first end
+    call_taken v = (taken (message_of m) o (eqb how 1) os _ e v).answer ∙ good_call_lem (message_of m) refl good
 
     pub call_refused : {n : PduParseErr} → y.verdict ≡ Err n → no_reading n first ≡ reading m how os first end
-    call_refused v = not_taken (message_of m) o absent (eqb how 1) os _ e v ∙ good_call_lem (message_of m) refl good
+    call_refused v = not_taken (message_of m) o (eqb how 1) os _ e v ∙ good_call_lem (message_of m) refl good
 
   -- the window of a good call lies inside the octets, which are few
   pub good_window_lem : good_call m how (length os) first end ≡ true → (first ≤ end) × (end ≤ 8 * length os) × (length os ≤ octets_most)

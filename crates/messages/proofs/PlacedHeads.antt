@@ -1,6 +1,6 @@
 -- The parts of the messages' heads, read at a cursor.
 use Rattle.std.specs.Prelude.{ℕ, ◌≡◌, Bool, List}
-use Rattle.std.proofs.Common.{ap, eq-eqb, ne_eqb}
+use Rattle.std.proofs.Common.{eq-eqb, ne_eqb}
 use Rattle.std.specs.Prelude.{Option, None, Some}
 use Rattle.bits.specs.PduParseError.{invalid_pdu_type}
 use Rattle.bits.specs.Reader.{Reader, ◌>>=◌, field, optional, Local, Tail}

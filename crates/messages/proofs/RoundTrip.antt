@@ -1,6 +1,6 @@
 -- WHAT THE WRITER TAKES READS BACK: each record that a writing call takes reads back the same, from exactly the bits written; every other
 -- bit is kept.
-use Prim.Native.Nat.{ℕ, zero, suc, ◌+◌, ◌-◌, ◌*◌, ◌≤◌}
+use Prim.Native.Nat.{ℕ, ◌+◌, ◌-◌, ◌*◌, ◌≤◌}
 use Rattle.std.proofs.Common.{arith, sym, ◌∙◌, length-append, leb-true, le-leb}
 use Rattle.std.specs.Prelude.{◌≡◌, Bool, true, false, cond, ◌&&◌, List, ◌++◌, length, take, drop, leb, eqb}
 use Rattle.std.proofs.Math.Path.{refl, ap}
@@ -23,7 +23,7 @@ use Rattle.messages.proofs.Demand3Calls.{call_is, window-is}
 use Rattle.messages.specs.declared.Record.{Record}
 use Rattle.messages.specs.declared.Reading.{Reading}
 use Rattle.messages.specs.declared.Writing.{Writing}
-use Rattle.std.specs.Prelude.{Option, None, Some, Result, Ok, Err}
+use Rattle.std.specs.Prelude.{Option, None, Some, Ok}
 use Rattle.bits.specs.PduParseError.{bad_call, value_too_large, ciphering_mismatch, not_one_attachment, address_form_unlisted, stay_alive_with_frame, frame_missing, type4_not_written, length_too_large, window_too_short}
 use Rattle.bits.specs.declared.pdu_parse_error.PduParseErr.{PduParseErr}
 

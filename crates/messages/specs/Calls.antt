@@ -1,5 +1,5 @@
 -- A reading call and a writing call over octets and a window (document 01, 'A reading call', 'A writing call').
-use Rattle.std.specs.Prelude.{ℕ, zero, suc, ◌+◌, ◌-◌, ◌*◌, ◌/◌, Bool, cond, ◌&&◌, ◌||◌, List, [], length, drop, eqb, leb}
+use Rattle.std.specs.Prelude.{ℕ, ◌+◌, ◌-◌, ◌*◌, ◌/◌, Bool, cond, ◌&&◌, ◌||◌, List, [], length, drop, eqb, leb}
 use Rattle.std.specs.Prelude.{Option, None}
 use Rattle.bits.specs.PduParseError.{bad_call}
 use Rattle.bits.specs.Bits.{Bits}

@@ -1,13 +1,15 @@
 // D-ATTACH/DETACH GROUP IDENTITY (EN 300 392-2, clause 16.9.2.1).
-ghost use Rattle.std.specs.Prelude.{◌≡◌};
-ghost use Rattle.bits.specs.Placed.{at, as_read, halted};
+ghost use Rattle.std.specs.Prelude.{◌≡◌, refl};
+ghost use Rattle.bits.specs.Placed.{at, as_read};
 ghost use Rattle.elements.specs.Kinds.{identifier_of, content};
-ghost use Rattle.messages.specs.Format.{message};
 ghost use Rattle.messages.specs.AttachDetach.{attach_detach_head};
-ghost use Rattle.messages.specs.Calls.{no_attach_detach, attach_detach_format};
-ghost use Rattle.messages.specs.MessageAnswers.{attach_detach_from, attach_detach_answer};
+ghost use Rattle.messages.specs.Head.{d_attach_detach_group_identity_type};
+ghost use Rattle.messages.specs.Calls.{of_attach_detach};
+ghost use Rattle.messages.specs.MessageAnswers.{attach_detach_from};
 
-use crate::MessageRead;
+use crate::d_location_update_accept::DLocationUpdateAccept;
+use crate::u_location_update_demand::ULocationUpdateDemand;
+use crate::{MessageRead, OwnRecord, Pdu, Record, unread};
 use bits::bitbuffer::{Cursor, Read};
 use bits::pdu_parse_error::PduParseErr;
 use elements::group_identity_downlink::{OptionalDownlinks, no_downlinks, read_downlinks_slot};
@@ -82,18 +84,6 @@ fn record_of(
     }
 }
 
-pub fn no_attach_detach() -> DAttachDetachGroupIdentity
-    ensures { result ≡ no_attach_detach }
-{
-    let head = AttachDetachHead {
-        group_identity_report: 0,
-        group_identity_acknowledgement_request: 0,
-        group_identity_attach_detach_mode: 0,
-        obit: 0,
-    };
-    record_of(head, no_downlinks(), NO_GENERICS, NO_GENERICS)
-}
-
 // The listed elements, in order.
 static TABLE: [Row; 4] = [
     Row {
@@ -114,42 +104,61 @@ static TABLE: [Row; 4] = [
     },
 ];
 
-fn refused(e: PduParseErr) -> MessageRead<DAttachDetachGroupIdentity>
-    ensures { result ≡ attach_detach_answer (halted e) }
-{
-    MessageRead {
-        verdict: Err(e),
-        record: no_attach_detach(),
+impl OwnRecord for DAttachDetachGroupIdentity {
+    ghost own = { λ r. r.attach_detach };
+
+    ghost of = { of_attach_detach };
+
+    fn none() -> DAttachDetachGroupIdentity {
+        let head = AttachDetachHead {
+            group_identity_report: 0,
+            group_identity_acknowledgement_request: 0,
+            group_identity_attach_detach_mode: 0,
+            obit: 0,
+        };
+        record_of(head, no_downlinks(), NO_GENERICS, NO_GENERICS)
+    }
+
+    fn alone(self) -> Record {
+        Record {
+            demand: ULocationUpdateDemand::none(),
+            accept: DLocationUpdateAccept::none(),
+            attach_detach: self,
+        }
     }
 }
 
-impl DAttachDetachGroupIdentity {
+impl Pdu for DAttachDetachGroupIdentity {
+    ghost TYPE = { d_attach_detach_group_identity_type };
+
+    ghost is_own = { record { is = λ h vs. refl } };
+
+    const TYPE: u64 = crate::ATTACH_DETACH;
+
     // The message: its head, and behind an O-bit of 1 its listed elements, if there are any. The octets are taken anew: what was
     // stored just before a call, piece by piece, is slow to copy as a whole.
-    pub fn from_bitbuf(
+    fn from_bitbuf(
         c: Cursor,
         octets: &[u8],
         skipping: bool,
-    ) -> MessageRead<DAttachDetachGroupIdentity>
-        ensures { result ≡ attach_detach_answer (at (message identifier_of content attach_detach_format skipping) octets.now c) }
-    {
+    ) -> MessageRead<DAttachDetachGroupIdentity> {
         let len = octets.len();
         let all = &octets[0..len];
         let h = read_head(c, all);
         let Ok((head, c1)) = h else {
-            return refused(h.unwrap_err());
+            return unread(h.unwrap_err());
         };
         let e = read_empty_table(c1, all, head.obit == 1);
         let Ok(c2) = e else {
             let a = scan_part(c1, all, &TABLE, 0, 2, false, skipping);
             let v = a.verdict;
             let Ok(c3) = v else {
-                return refused(v.unwrap_err());
+                return unread(v.unwrap_err());
             };
             let d = read_downlinks_slot(c3, all, true, GROUP_IDENTITY_DOWNLINK);
             let w = d.verdict;
             let Ok(c4) = w else {
-                return refused(w.unwrap_err());
+                return unread(w.unwrap_err());
             };
             let front = a.value;
             let before = front.generics;
@@ -159,7 +168,7 @@ impl DAttachDetachGroupIdentity {
                 let b = scan_part(c4, all, &TABLE, 3, 4, true, skipping);
                 let x = b.verdict;
                 let Ok(c6) = x else {
-                    return refused(x.unwrap_err());
+                    return unread(x.unwrap_err());
                 };
                 let back = b.value;
                 let behind = back.generics;

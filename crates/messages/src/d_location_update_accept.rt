@@ -1,13 +1,16 @@
 // D-LOCATION UPDATE ACCEPT (EN 300 392-2, clause 16.9.2.7).
-ghost use Rattle.std.specs.Prelude.{◌≡◌, true};
-ghost use Rattle.bits.specs.Placed.{at, as_read, halted};
+ghost use Rattle.std.specs.Prelude.{◌≡◌, refl, true};
+ghost use Rattle.bits.specs.Placed.{at, as_read};
 ghost use Rattle.elements.specs.Kinds.{identifier_of, content};
-ghost use Rattle.messages.specs.Format.{body, message};
+ghost use Rattle.messages.specs.Format.{body};
 ghost use Rattle.messages.specs.Accept.{accept_options_of, accept_options, no_accept_options, accept_options_if, accept_head};
-ghost use Rattle.messages.specs.Calls.{no_accept, accept_format};
+ghost use Rattle.messages.specs.Head.{d_location_update_accept_type};
+ghost use Rattle.messages.specs.Calls.{of_accept, accept_format};
 ghost use Rattle.messages.specs.MessageAnswers.{accept_from, accept_answer};
 
-use crate::MessageRead;
+use crate::d_attach_detach_group_identity::DAttachDetachGroupIdentity;
+use crate::u_location_update_demand::ULocationUpdateDemand;
+use crate::{MessageRead, OwnRecord, Pdu, Record, unread};
 use bits::bitbuffer::{Cursor, Read};
 use bits::pdu_parse_error::PduParseErr;
 use elements::energy_saving_information::{
@@ -173,21 +176,6 @@ fn record_of(
     }
 }
 
-pub fn no_accept() -> DLocationUpdateAccept
-    ensures { result ≡ no_accept }
-{
-    let head = AcceptHead {
-        location_update_accept_type: 0,
-        obit: 0,
-        options: no_options(),
-    };
-    let none = OptionalLocationAccept {
-        present: false,
-        value: no_location_accept(),
-    };
-    record_of(head, none, NO_GENERICS, NO_GENERICS)
-}
-
 // The listed elements, in order.
 static TABLE: [Row; 8] = [
     Row {
@@ -224,15 +212,6 @@ static TABLE: [Row; 8] = [
     },
 ];
 
-fn refused(e: PduParseErr) -> MessageRead<DLocationUpdateAccept>
-    ensures { result ≡ accept_answer (halted e) }
-{
-    MessageRead {
-        verdict: Err(e),
-        record: no_accept(),
-    }
-}
-
 // The listed elements, up to the closing M-bit.
 fn read_elements(
     c: Cursor,
@@ -245,17 +224,17 @@ fn read_elements(
     let a = scan_part(c, octets, &TABLE, 0, 2, false, skipping);
     let v = a.verdict;
     let Ok(c1) = v else {
-        return refused(v.unwrap_err());
+        return unread(v.unwrap_err());
     };
     let d = read_location_accept_slot(c1, octets, GROUP_IDENTITY_LOCATION_ACCEPT);
     let w = d.verdict;
     let Ok(c2) = w else {
-        return refused(w.unwrap_err());
+        return unread(w.unwrap_err());
     };
     let b = scan_part(c2, octets, &TABLE, 3, 8, true, skipping);
     let x = b.verdict;
     let Ok(c3) = x else {
-        return refused(x.unwrap_err());
+        return unread(x.unwrap_err());
     };
     let front = a.value;
     let back = b.value;
@@ -268,18 +247,45 @@ fn read_elements(
     }
 }
 
-impl DLocationUpdateAccept {
+impl OwnRecord for DLocationUpdateAccept {
+    ghost own = { λ r. r.accept };
+
+    ghost of = { of_accept };
+
+    fn none() -> DLocationUpdateAccept {
+        let head = AcceptHead {
+            location_update_accept_type: 0,
+            obit: 0,
+            options: no_options(),
+        };
+        let none = OptionalLocationAccept {
+            present: false,
+            value: no_location_accept(),
+        };
+        record_of(head, none, NO_GENERICS, NO_GENERICS)
+    }
+
+    fn alone(self) -> Record {
+        Record {
+            demand: ULocationUpdateDemand::none(),
+            accept: self,
+            attach_detach: DAttachDetachGroupIdentity::none(),
+        }
+    }
+}
+
+impl Pdu for DLocationUpdateAccept {
+    ghost TYPE = { d_location_update_accept_type };
+
+    ghost is_own = { record { is = λ h vs. refl } };
+
+    const TYPE: u64 = crate::ACCEPT;
+
     // The message: its head, and behind an O-bit of 1 its listed elements, if there are any.
-    pub fn from_bitbuf(
-        c: Cursor,
-        octets: &[u8],
-        skipping: bool,
-    ) -> MessageRead<DLocationUpdateAccept>
-        ensures { result ≡ accept_answer (at (message identifier_of content accept_format skipping) octets.now c) }
-    {
+    fn from_bitbuf(c: Cursor, octets: &[u8], skipping: bool) -> MessageRead<DLocationUpdateAccept> {
         let h = read_head(c, octets);
         let Ok((head, c1)) = h else {
-            return refused(h.unwrap_err());
+            return unread(h.unwrap_err());
         };
         let e = read_empty_table(c1, octets, head.obit == 1);
         let Ok(c2) = e else {

@@ -5,17 +5,19 @@ pub mod d_attach_detach_group_identity;
 pub mod d_location_update_accept;
 pub mod u_location_update_demand;
 
-ghost use Rattle.std.specs.Prelude.{◌≡◌, ◌≤◌};
-ghost use Rattle.messages.specs.Calls.{demand, accept, attach_detach, known, good_window, good_call, no_reading, reading, behind};
-ghost use Rattle.messages.specs.Calls.{accepted, called};
+ghost use Rattle.std.specs.Prelude.{ℕ, ◌≡◌, ◌≤◌};
+ghost use Rattle.bits.specs.Placed.{halted, at};
+ghost use Rattle.messages.specs.Calls.{no_record, message_of, read_message, known, good_window, good_call, no_reading, reading, behind, accepted, called};
+ghost use Rattle.messages.specs.declared.Record.{Record};
+ghost use Rattle.messages.specs.MessageAnswers.{message_answer, Own};
 
 use bits::bitbuffer::{Cursor, Read};
 use bits::pdu_parse_error::PduParseErr;
-use d_attach_detach_group_identity::{DAttachDetachGroupIdentity, no_attach_detach};
-use d_location_update_accept::{DLocationUpdateAccept, no_accept};
+use d_attach_detach_group_identity::DAttachDetachGroupIdentity;
+use d_location_update_accept::DLocationUpdateAccept;
 use elements::mm_pdu_type_dl::{D_ATTACH_DETACH_GROUP_IDENTITY, D_LOCATION_UPDATE_ACCEPT};
 use elements::mm_pdu_type_ul::U_LOCATION_UPDATE_DEMAND;
-use u_location_update_demand::{ULocationUpdateDemand, no_demand};
+use u_location_update_demand::ULocationUpdateDemand;
 
 // The record of a call: the message's own is filled, the others stay absent and zero.
 #[repr(C)]
@@ -31,6 +33,35 @@ pub struct Record {
 pub struct MessageRead<M> {
     pub verdict: Read<usize>,
     pub record: M,
+}
+
+// A message's own record.
+pub trait OwnRecord: Copy {
+    // how it is taken out of a call's record, and put into one
+    ghost own: { Record → Self };
+
+    ghost of: { Self → Record };
+
+    // All absent and zero.
+    fn none() -> Self
+        ensures { result ≡ own no_record };
+
+    // The record of a call that holds it alone.
+    fn alone(self) -> Record
+        ensures { result ≡ of self };
+}
+
+// One of the three messages.
+pub trait Pdu: OwnRecord {
+    ghost TYPE: { ℕ };
+    // Its type number.
+    const TYPE: u64;
+
+    // The message at a cursor.
+    fn from_bitbuf(c: Cursor, octets: &[u8], skipping: bool) -> MessageRead<Self>
+        ensures { result ≡ message_answer Self.own (at (read_message (message_of TYPE) skipping) octets.now c) };
+
+    ghost is_own: { Own (message_of TYPE) Self.own Self.of };
 }
 
 pub type Verdict = Result<(), PduParseErr>;
@@ -102,6 +133,16 @@ pub fn is_good_call(octets: usize, first: usize, end: usize, message: u64, wante
     false
 }
 
+// A message that is refused.
+fn unread<M: OwnRecord>(e: PduParseErr) -> MessageRead<M>
+    ensures { result ≡ message_answer M.own (halted e) }
+{
+    MessageRead {
+        verdict: Err(e),
+        record: M::none(),
+    }
+}
+
 // A refusal's answer.
 fn refused(e: PduParseErr, first: usize) -> Reading
     ensures { result ≡ no_reading e first }
@@ -111,11 +152,7 @@ fn refused(e: PduParseErr, first: usize) -> Reading
         place: first,
         consumed: 0,
         skipped: 0,
-        record: Record {
-            demand: no_demand(),
-            accept: no_accept(),
-            attach_detach: no_attach_detach(),
-        },
+        record: ULocationUpdateDemand::none().alone(),
     }
 }
 
@@ -133,79 +170,20 @@ fn answered(first: usize, skipped: usize, c: Cursor, held: Record) -> Reading
     }
 }
 
-fn read_demand(octets: &[u8], first: usize, end: usize, skipping: bool) -> Reading
-    ensures { result ≡ called demand skipping octets.now first end }
+// A reading call that passed question 1.
+fn read_as<M: Pdu>(octets: &[u8], first: usize, end: usize, skipping: bool) -> Reading
+    ensures { result ≡ called (message_of M.TYPE) skipping octets.now first end }
 {
     let c = Cursor {
         at: first,
         end: end,
     };
-    let a = ULocationUpdateDemand::from_bitbuf(c, octets, skipping);
+    let a = M::from_bitbuf(c, octets, skipping);
     let v = a.verdict;
     let Ok((n, c1)) = v else {
         return refused(v.unwrap_err(), first);
     };
-    let own = a.record;
-    answered(
-        first,
-        n,
-        c1,
-        Record {
-            demand: own,
-            accept: no_accept(),
-            attach_detach: no_attach_detach(),
-        },
-    )
-}
-
-fn read_accept(octets: &[u8], first: usize, end: usize, skipping: bool) -> Reading
-    ensures { result ≡ called accept skipping octets.now first end }
-{
-    let c = Cursor {
-        at: first,
-        end: end,
-    };
-    let a = DLocationUpdateAccept::from_bitbuf(c, octets, skipping);
-    let v = a.verdict;
-    let Ok((n, c1)) = v else {
-        return refused(v.unwrap_err(), first);
-    };
-    let own = a.record;
-    answered(
-        first,
-        n,
-        c1,
-        Record {
-            demand: no_demand(),
-            accept: own,
-            attach_detach: no_attach_detach(),
-        },
-    )
-}
-
-fn read_attach_detach(octets: &[u8], first: usize, end: usize, skipping: bool) -> Reading
-    ensures { result ≡ called attach_detach skipping octets.now first end }
-{
-    let c = Cursor {
-        at: first,
-        end: end,
-    };
-    let a = DAttachDetachGroupIdentity::from_bitbuf(c, octets, skipping);
-    let v = a.verdict;
-    let Ok((n, c1)) = v else {
-        return refused(v.unwrap_err(), first);
-    };
-    let own = a.record;
-    answered(
-        first,
-        n,
-        c1,
-        Record {
-            demand: no_demand(),
-            accept: no_accept(),
-            attach_detach: own,
-        },
-    )
+    answered(first, n, c1, a.record.alone())
 }
 
 // A reading call: the octets lent, the window's first and end bit, the message's type number, the reading wanted.
@@ -215,12 +193,12 @@ pub fn read(octets: &[u8], first: usize, end: usize, message: u64, wanted: u64) 
     if is_good_call(octets.len(), first, end, message, wanted) {
         let skipping = wanted == SKIPPING;
         if message == DEMAND {
-            return read_demand(octets, first, end, skipping);
+            return read_as::<ULocationUpdateDemand>(octets, first, end, skipping);
         }
         if message == ACCEPT {
-            return read_accept(octets, first, end, skipping);
+            return read_as::<DLocationUpdateAccept>(octets, first, end, skipping);
         }
-        return read_attach_detach(octets, first, end, skipping);
+        return read_as::<DAttachDetachGroupIdentity>(octets, first, end, skipping);
     }
     refused(PduParseErr::BadCall, first)
 }

@@ -1,13 +1,16 @@
 // U-LOCATION UPDATE DEMAND (EN 300 392-2, clause 16.9.3.4).
-ghost use Rattle.std.specs.Prelude.{◌≡◌, true, option_map};
-ghost use Rattle.bits.specs.Placed.{at, as_read, halted};
+ghost use Rattle.std.specs.Prelude.{◌≡◌, refl, true, option_map};
+ghost use Rattle.bits.specs.Placed.{at, as_read};
 ghost use Rattle.elements.specs.Kinds.{identifier_of, content};
-ghost use Rattle.messages.specs.Format.{body, message};
+ghost use Rattle.messages.specs.Format.{body};
 ghost use Rattle.messages.specs.Demand.{halved, demand_options_of, demand_options, no_demand_options, demand_options_if, demand_head};
-ghost use Rattle.messages.specs.Calls.{no_demand, demand_format};
+ghost use Rattle.messages.specs.Head.{u_location_update_demand_type};
+ghost use Rattle.messages.specs.Calls.{of_demand, demand_format};
 ghost use Rattle.messages.specs.MessageAnswers.{demand_from, demand_answer};
 
-use crate::MessageRead;
+use crate::d_attach_detach_group_identity::DAttachDetachGroupIdentity;
+use crate::d_location_update_accept::DLocationUpdateAccept;
+use crate::{MessageRead, OwnRecord, Pdu, Record, unread};
 use bits::bitbuffer::{Cursor, Read};
 use bits::pdu_parse_error::PduParseErr;
 use elements::class_of_ms::{ClassOfMs, OptionalClassOfMs, parse_type2_class_of_ms};
@@ -177,24 +180,6 @@ fn record_of(
     }
 }
 
-pub fn no_demand() -> ULocationUpdateDemand
-    ensures { result ≡ no_demand }
-{
-    let head = DemandHead {
-        location_update_type: 0,
-        request_to_append_la: 0,
-        cipher_control: 0,
-        ciphering_parameters: NO_NUMBER,
-        obit: 0,
-        options: no_options(),
-    };
-    let none = OptionalLocationDemand {
-        present: false,
-        value: no_location_demand(),
-    };
-    record_of(head, none, NO_GENERICS)
-}
-
 // The listed elements, in order.
 static TABLE: [Row; 5] = [
     Row {
@@ -219,15 +204,6 @@ static TABLE: [Row; 5] = [
     },
 ];
 
-fn refused(e: PduParseErr) -> MessageRead<ULocationUpdateDemand>
-    ensures { result ≡ demand_answer (halted e) }
-{
-    MessageRead {
-        verdict: Err(e),
-        record: no_demand(),
-    }
-}
-
 // The listed elements, up to the closing M-bit: no slot stands before the location demand.
 fn read_elements(
     c: Cursor,
@@ -239,17 +215,17 @@ fn read_elements(
 {
     let s = skip_if(c, octets, &TABLE, skipping);
     let Ok((n, c1)) = s else {
-        return refused(s.unwrap_err());
+        return unread(s.unwrap_err());
     };
     let d = read_location_demand_slot(c1, octets, GROUP_IDENTITY_LOCATION_DEMAND);
     let w = d.verdict;
     let Ok(c2) = w else {
-        return refused(w.unwrap_err());
+        return unread(w.unwrap_err());
     };
     let b = scan_part(c2, octets, &TABLE, 1, 5, true, skipping);
     let x = b.verdict;
     let Ok(c3) = x else {
-        return refused(x.unwrap_err());
+        return unread(x.unwrap_err());
     };
     let back = b.value;
     let generics = back.generics;
@@ -260,18 +236,48 @@ fn read_elements(
     }
 }
 
-impl ULocationUpdateDemand {
+impl OwnRecord for ULocationUpdateDemand {
+    ghost own = { λ r. r.demand };
+
+    ghost of = { of_demand };
+
+    fn none() -> ULocationUpdateDemand {
+        let head = DemandHead {
+            location_update_type: 0,
+            request_to_append_la: 0,
+            cipher_control: 0,
+            ciphering_parameters: NO_NUMBER,
+            obit: 0,
+            options: no_options(),
+        };
+        let none = OptionalLocationDemand {
+            present: false,
+            value: no_location_demand(),
+        };
+        record_of(head, none, NO_GENERICS)
+    }
+
+    fn alone(self) -> Record {
+        Record {
+            demand: self,
+            accept: DLocationUpdateAccept::none(),
+            attach_detach: DAttachDetachGroupIdentity::none(),
+        }
+    }
+}
+
+impl Pdu for ULocationUpdateDemand {
+    ghost TYPE = { u_location_update_demand_type };
+
+    ghost is_own = { record { is = λ h vs. refl } };
+
+    const TYPE: u64 = crate::DEMAND;
+
     // The message: its head, and behind an O-bit of 1 its listed elements, if there are any.
-    pub fn from_bitbuf(
-        c: Cursor,
-        octets: &[u8],
-        skipping: bool,
-    ) -> MessageRead<ULocationUpdateDemand>
-        ensures { result ≡ demand_answer (at (message identifier_of content demand_format skipping) octets.now c) }
-    {
+    fn from_bitbuf(c: Cursor, octets: &[u8], skipping: bool) -> MessageRead<ULocationUpdateDemand> {
         let h = read_head(c, octets);
         let Ok((head, c1)) = h else {
-            return refused(h.unwrap_err());
+            return unread(h.unwrap_err());
         };
         let e = read_empty_table(c1, octets, head.obit == 1);
         let Ok(c2) = e else {

@@ -71,20 +71,20 @@ whole c =
 pub returns-in_default : goal.returns-in_default
 returns-in_default c =
     let a = c.args in
-    c.refused.ensures ∙ answer accept_answer (no_front_lem _ a.skipping (parts a.head) (verdict_refused _ c.scan_part-a.ensures c.unwrap_err.ensures))
+    c.unread.ensures ∙ answer accept_answer (no_front_lem _ a.skipping (parts a.head) (verdict_refused _ c.scan_part-a.ensures c.unwrap_err.ensures))
 
 pub returns-in_default-w : goal.returns-in_default-w
 unfolding location_accept_slot
 returns-in_default-w c =
     let a = c.args in
-    c.refused-in_default-w.ensures ∙ answer accept_answer (no_slot _ a.skipping (parts a.head) (front_read ((goal.at.returns-in_default-w c).In-Ok))
+    c.unread-in_default-w.ensures ∙ answer accept_answer (no_slot _ a.skipping (parts a.head) (front_read ((goal.at.returns-in_default-w c).In-Ok))
     (verdict_refused _ c.read_location_accept_slot-d.ensures c.unwrap_err-in_default-w.ensures))
 
 pub returns-in_default-x : goal.returns-in_default-x
 unfolding location_accept_slot
 returns-in_default-x c =
     let a = c.args in
-    c.refused-in_default-x.ensures ∙ answer accept_answer (no_back _ a.skipping (parts a.head) (front_read ((goal.at.returns-in_default-x c).In-Ok))
+    c.unread-in_default-x.ensures ∙ answer accept_answer (no_back _ a.skipping (parts a.head) (front_read ((goal.at.returns-in_default-x c).In-Ok))
     (slot_read ((goal.at.returns-in_default-x c).In-Ok-w)) (verdict_refused _ c.scan_part-b.ensures c.unwrap_err-in_default-x.ensures))
 
 pub overflow_add-result : goal.overflow_add-result

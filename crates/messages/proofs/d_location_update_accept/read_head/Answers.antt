@@ -1,9 +1,7 @@
 -- `messages::d_location_update_accept::read_head` meets its contract: the type, the fields up to the O-bit and the type 2 elements; another type is refused.
-use Rattle.std.proofs.Common.{sym}
 use Rattle.bits.specs.Reader.{word}
 use Rattle.bits.specs.ReaderLaws.{local·rules, local_tail}
 use Rattle.bits.specs.PlacedLaws.{so, from, handed_up, step, stop, done}
-use Rattle.elements.proofs.PlacedOptional.{from-option, ends}
 use Rattle.messages.specs.Accept.{accept_head}
 use Rattle.messages.proofs.AcceptLaws.{accept_options-local}
 use Rattle.messages.proofs.PlacedHeads.{type_there, type_ended, type_other}

@@ -1,6 +1,6 @@
 -- `messages::u_location_update_demand::read_elements` meets its contract: no slot stands before its own one, and a part of the table behind it. No
 -- count overflows: each element skipped is a bit at least. Assumes nothing.
-use mathlib.Core.Path.{◌≡◌, refl, ap, ◌∙◌}
+use mathlib.Core.Path.{◌≡◌, refl, ◌∙◌}
 use native.Mathlib.Omega.{arith}
 use mathlib.Core.Bool.{true, false}
 use Rattle.std.specs.Prelude.{Option}
@@ -71,20 +71,20 @@ whole c =
 pub returns-in_default : goal.returns-in_default
 returns-in_default c =
     let a = c.args in
-    c.refused.ensures ∙ answer demand_answer (no_front_lem _ a.skipping (parts a.head) (empty-part-refused _ _ false 0 (refused_by c.skip_if-s.ensures c.unwrap_err.ensures)))
+    c.unread.ensures ∙ answer demand_answer (no_front_lem _ a.skipping (parts a.head) (empty-part-refused _ _ false 0 (refused_by c.skip_if-s.ensures c.unwrap_err.ensures)))
 
 pub returns-in_default-w : goal.returns-in_default-w
 unfolding location_demand_slot
 returns-in_default-w c =
     let a = c.args in
-    c.refused-in_default-w.ensures ∙ answer demand_answer (no_slot _ a.skipping (parts a.head) (front_read ((goal.at.returns-in_default-w c).In-Ok))
+    c.unread-in_default-w.ensures ∙ answer demand_answer (no_slot _ a.skipping (parts a.head) (front_read ((goal.at.returns-in_default-w c).In-Ok))
     (verdict_refused _ c.read_location_demand_slot-d.ensures c.unwrap_err-in_default-w.ensures))
 
 pub returns-in_default-x : goal.returns-in_default-x
 unfolding location_demand_slot
 returns-in_default-x c =
     let a = c.args in
-    c.refused-in_default-x.ensures ∙ answer demand_answer (no_back _ a.skipping (parts a.head) (front_read ((goal.at.returns-in_default-x c).In-Ok))
+    c.unread-in_default-x.ensures ∙ answer demand_answer (no_back _ a.skipping (parts a.head) (front_read ((goal.at.returns-in_default-x c).In-Ok))
     (slot_read ((goal.at.returns-in_default-x c).In-Ok-w)) (verdict_refused _ c.scan_part-b.ensures c.unwrap_err-in_default-x.ensures))
 
 pub overflow_add-result : goal.overflow_add-result

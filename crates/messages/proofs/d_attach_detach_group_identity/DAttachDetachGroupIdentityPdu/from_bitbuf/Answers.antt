@@ -1,4 +1,4 @@
--- `messages::d_attach_detach_group_identity::DAttachDetachGroupIdentity::from_bitbuf` meets its contract: the head, then no elements, or the table in two
+-- `messages::d_attach_detach_group_identity::DAttachDetachGroupIdentityPdu::from_bitbuf` meets its contract: the head, then no elements, or the table in two
 -- parts and its own slot between them. No count overflows: each element skipped is a bit at least. Assumes nothing.
 use mathlib.Core.Path.{◌≡◌, ap, ◌∙◌, refl}
 use native.Mathlib.Omega.{arith}
@@ -31,8 +31,8 @@ use Rattle.messages.specs.Format.{body, message}
 use Rattle.messages.specs.AttachDetach.{attach_detach_table, attach_detach_head}
 use Rattle.messages.specs.declared.d_attach_detach_group_identity.AttachDetachHead.{AttachDetachHead}
 use Rattle.messages.specs.declared.Record.{Record}
-use Rattle.messages.proofs.d_attach_detach_group_identity.DAttachDetachGroupIdentity.from_bitbuf.Goals as goal
-use Rattle.messages.proofs.d_attach_detach_group_identity.DAttachDetachGroupIdentity.from_bitbuf.Goals.{After-read_downlinks_slot-d, In-Ok, In-Ok-v, In-Ok-w, In-Ok-x, In-Ok-z, In_default-e}
+use Rattle.messages.proofs.d_attach_detach_group_identity.DAttachDetachGroupIdentityPdu.from_bitbuf.Goals as goal
+use Rattle.messages.proofs.d_attach_detach_group_identity.DAttachDetachGroupIdentityPdu.from_bitbuf.Goals.{After-read_downlinks_slot-d, In-Ok, In-Ok-v, In-Ok-w, In-Ok-x, In-Ok-z, In_default-e}
 
 -- the slots before the own one, and those behind it
 abbrev front : List Row
@@ -112,25 +112,25 @@ closed c =
 
 pub returns-in_default : goal.returns-in_default
 returns-in_default c =
-    c.refused.ensures ∙ answer attach_detach_answer (no_head attach_detach_format c.args.skipping (refused_by c.read_head-h.ensures c.unwrap_err.ensures))
+    c.unread.ensures ∙ answer attach_detach_answer (no_head attach_detach_format c.args.skipping (refused_by c.read_head-h.ensures c.unwrap_err.ensures))
     ∙ lent _ _ _
 
 pub returns-in_default-v : goal.returns-in_default-v
 returns-in_default-v c =
-    c.refused-in_default-v.ensures ∙ answer attach_detach_answer (no_front_lem _ c.args.skipping (parts c.in-Ok.head) (verdict_refused _ c.scan_part-a.ensures c.unwrap_err-in_default-v.ensures))
+    c.unread-in_default-v.ensures ∙ answer attach_detach_answer (no_front_lem _ c.args.skipping (parts c.in-Ok.head) (verdict_refused _ c.scan_part-a.ensures c.unwrap_err-in_default-v.ensures))
     ∙ following ((goal.at.returns-in_default-v c).In_default-e)
 
 pub returns-in_default-w : goal.returns-in_default-w
 unfolding downlinks_slot
 returns-in_default-w c =
-    c.refused-in_default-w.ensures ∙ answer attach_detach_answer (no_slot _ c.args.skipping (parts c.in-Ok.head) (front_read ((goal.at.returns-in_default-w c).In-Ok-v))
+    c.unread-in_default-w.ensures ∙ answer attach_detach_answer (no_slot _ c.args.skipping (parts c.in-Ok.head) (front_read ((goal.at.returns-in_default-w c).In-Ok-v))
     (verdict_refused _ (slot_ensured ((goal.at.returns-in_default-w c).After-read_downlinks_slot-d)) c.unwrap_err-in_default-w.ensures))
     ∙ following ((goal.at.returns-in_default-w c).In_default-e)
 
 pub returns-in_default-x : goal.returns-in_default-x
 unfolding downlinks_slot
 returns-in_default-x c =
-    c.refused-in_default-x.ensures ∙ answer attach_detach_answer (no_back _ c.args.skipping (parts c.in-Ok.head) (front_read ((goal.at.returns-in_default-x c).In-Ok-v))
+    c.unread-in_default-x.ensures ∙ answer attach_detach_answer (no_back _ c.args.skipping (parts c.in-Ok.head) (front_read ((goal.at.returns-in_default-x c).In-Ok-v))
     (slot_read ((goal.at.returns-in_default-x c).In-Ok-w)) (verdict_refused _ c.scan_part-b.ensures c.unwrap_err-in_default-x.ensures))
     ∙ following ((goal.at.returns-in_default-x c).In_default-e)
 

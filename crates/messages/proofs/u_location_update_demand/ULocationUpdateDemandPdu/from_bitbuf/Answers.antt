@@ -1,5 +1,5 @@
--- `messages::u_location_update_demand::ULocationUpdateDemand::from_bitbuf` meets its contract: the head, then the elements or none.
-use mathlib.Core.Path.{refl, ap, ◌∙◌}
+-- `messages::u_location_update_demand::ULocationUpdateDemandPdu::from_bitbuf` meets its contract: the head, then the elements or none.
+use mathlib.Core.Path.{refl, ◌∙◌}
 use Rattle.bits.specs.ReaderLaws.{local_tail}
 use Rattle.bits.specs.Placed.{placed}
 use Rattle.bits.specs.PlacedLaws.{Gives, by, from, refused_by}
@@ -9,8 +9,8 @@ use Rattle.messages.specs.Calls.{demand_format}
 use Rattle.messages.proofs.DemandLaws.{demand_head-local}
 use Rattle.messages.proofs.PlacedMessages.{no_head, elements_follow, none_follow}
 use Rattle.messages.specs.MessageAnswers.{demand_answer}
-use Rattle.messages.proofs.u_location_update_demand.ULocationUpdateDemand.from_bitbuf.Goals as goal
-use Rattle.messages.proofs.u_location_update_demand.ULocationUpdateDemand.from_bitbuf.Goals.{In-Ok}
+use Rattle.messages.proofs.u_location_update_demand.ULocationUpdateDemandPdu.from_bitbuf.Goals as goal
+use Rattle.messages.proofs.u_location_update_demand.ULocationUpdateDemandPdu.from_bitbuf.Goals.{In-Ok}
 
 -- the head
 headed : (c : In-Ok) → let a = c.args in Gives demand_head a.octets.now a.c (placed c.in-Ok.head c.in-Ok.c1)
@@ -18,7 +18,7 @@ headed c = from c.in-Ok.ensures
 
 pub returns-in_default : goal.returns-in_default
 returns-in_default c =
-    c.refused.ensures ∙ answer demand_answer (no_head demand_format c.args.skipping (refused_by c.read_head-h.ensures c.unwrap_err.ensures))
+    c.unread.ensures ∙ answer demand_answer (no_head demand_format c.args.skipping (refused_by c.read_head-h.ensures c.unwrap_err.ensures))
 
 pub returns-in_default-e : goal.returns-in_default-e
 returns-in_default-e c =

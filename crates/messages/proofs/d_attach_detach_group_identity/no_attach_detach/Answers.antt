@@ -1,5 +1,0 @@
--- `messages::d_attach_detach_group_identity::no_attach_detach` meets its contract: every slot absent.
-use Rattle.messages.proofs.d_attach_detach_group_identity.no_attach_detach.Goals as goal
-
-pub returns : goal.returns
-returns c = rw (c.record_of.ensures, c.no_downlinks.ensures)

@@ -1,5 +1,0 @@
--- `messages::d_location_update_accept::no_accept` meets its contract: every element and slot absent.
-use Rattle.messages.proofs.d_location_update_accept.no_accept.Goals as goal
-
-pub returns : goal.returns
-returns c = rw (c.record_of.ensures, c.no_location_accept.ensures, c.no_options.ensures)

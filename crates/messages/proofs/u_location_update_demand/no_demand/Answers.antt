@@ -1,5 +1,0 @@
--- `messages::u_location_update_demand::no_demand` meets its contract: every element and slot absent.
-use Rattle.messages.proofs.u_location_update_demand.no_demand.Goals as goal
-
-pub returns : goal.returns
-returns c = rw (c.record_of.ensures, c.no_location_demand.ensures, c.no_options.ensures)
