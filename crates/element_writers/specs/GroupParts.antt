@@ -1,5 +1,5 @@
 -- The bits of a group as the fields that they are written in: those up to the GSSI, and the rest.
-use Rattle.std.specs.Prelude.{ℕ, ◌+◌, ◌≤◌, ◌<◌, ◌≡◌, Bool, true, false, cond, length, take, get_or, is_some}
+use Rattle.std.specs.Prelude.{ℕ, ◌+◌, ◌≤◌, ◌<◌, ◌≡◌, Bool, true, false, cond, length, take, get_or, is_some, unwrap_or}
 use Rattle.std.proofs.Common.{arith, ◌∙◌, length-append}
 use Rattle.std.proofs.Math.Path.{refl, ap₂}
 use Rattle.std.specs.Prelude.{Option, None, Some}
@@ -7,7 +7,7 @@ use mathlib.Core.List.{List, [], ◌∷◌, ◌++◌, append_assoc, append-nil}
 use Rattle.bits.specs.Bits.{Bits, digits}
 use Rattle.bits.specs.BitsLaws.{length_digits}
 use Rattle.bits.specs.Written.{Written, joined}
-use Rattle.bits.specs.PutsLaws.{Puts, nothing, ◌⨾◌, joined-append}
+use Rattle.bits.specs.PutsLaws.{Puts, ◌⨾◌, joined-append}
 use Rattle.elements.specs.Numbers.{held, option_bits, flag_width}
 use Rattle.elements.specs.Groups.{Form, form_of, type_of, address_type_width, address_width, address_bits, detachment_width, kind_of, group_bits, class_of_usage_width, lifetime_width, uplink_forms, uplink_class, uplink_detachment, uplink_address_in, uplink_bits, downlink_forms, attachment_bits, downlink_attachment, downlink_detachment, downlink_address_in, downlink_bits}
 use Rattle.elements.specs.Lists.{each}
@@ -17,39 +17,7 @@ use Rattle.elements.specs.declared.group_identity_uplink.GroupIdentityUplink.{Gr
 use Rattle.elements.specs.declared.group_identity_downlink.GroupIdentityDownlink.{GroupIdentityDownlink}
 use Rattle.elements.specs.declared.group_address.GroupAddress.{GroupAddress}
 
--- an absent number has no digits
-pub option-digits : (p : Bool) (w v : ℕ) → digits (cond p w 0) v ≡ option_bits (digits w) (held p v)
-unfolding digits
-option-digits true w v = refl
-option-digits false w v = refl
-
 -- ## one group
-
--- two functions of the three parts' presences, by their tables
-module _ {A : Type 0} where
-  abbrev eight_of : (Bool → Bool → Bool → A) → List A
-  eight_of f =
-      f true true true ∷ f true true false ∷ f true false true ∷ f true false false ∷ f false true true ∷ f false true false ∷ f false false true ∷ f false false false ∷ []
-
-  pub same_eight : (f h : Bool → Bool → Bool → A) → eight_of f ≡ eight_of h → (g e v : Bool) → f g e v ≡ h g e v
-  same_eight f h t true true true = cc
-  same_eight f h t true true false = cc
-  same_eight f h t true false true = cc
-  same_eight f h t true false false = cc
-  same_eight f h t false true true = cc
-  same_eight f h t false true false = cc
-  same_eight f h t false false true = cc
-  same_eight f h t false false false = cc
-
--- the address type, by the parts that are present
-pub uplink_type : (g e v : Bool) → cond v (cond g 3 (cond e 3 2)) (cond g (cond e 1 0) 3) ≡ type_of uplink_forms (record { gssi = g; address_extension = e; vgssi = v })
-unfolding type_of
-uplink_type = same_eight _ (λ g e v. type_of uplink_forms (record { gssi = g; address_extension = e; vgssi = v })) refl
-
-pub downlink_type : (g e v : Bool)
-    → cond v (cond g (cond e 3 4) (cond e 4 2)) (cond g (cond e 1 0) 4) ≡ type_of downlink_forms (record { gssi = g; address_extension = e; vgssi = v })
-unfolding type_of
-downlink_type = same_eight _ (λ g e v. type_of downlink_forms (record { gssi = g; address_extension = e; vgssi = v })) refl
 
 abbrev pub group_front : {T : Type 0} → (T → Bits) → List Form → Option T → Option ℕ → GroupAddress → Bits
 group_front bits forms t d a =
@@ -58,6 +26,20 @@ group_front bits forms t d a =
 
 abbrev pub group_back : GroupAddress → Bits
 group_back a = option_bits (digits address_width) a.address_extension ++ option_bits (digits address_width) a.vgssi
+
+-- a group of a kind whose fronts and addresses are these
+abbrev pub group_parts : {G : Type 0} → (G → Bits) → (G → GroupAddress) → G → List Bits
+group_parts front address g = front g ∷ group_back (address g) ∷ []
+
+-- an absent number has no digits
+pub part-digits : (w : ℕ) (o : Option ℕ) → digits (cond (is_some o) w 0) (unwrap_or o 0) ≡ option_bits (digits w) o
+unfolding digits
+part-digits w None = refl
+part-digits w (Some v) = refl
+
+pub no-digits : (v : ℕ) → digits 0 v ≡ []
+unfolding digits
+no-digits v = refl
 
 pub group-parts : {T : Type 0} (bits : T → Bits) (forms : List Form) (t : Option T) (d : Option ℕ) (a : GroupAddress)
     → group_front bits forms t d a ++ group_back a ≡ group_bits bits forms t d a
@@ -83,7 +65,7 @@ group_front-fits bits forms t d a h =
     rw (length-append (((x ++ option_bits bits t) ++ y) ++ z) g, length-append ((x ++ option_bits bits t) ++ y) z, length-append (x ++ option_bits bits t) y, length-append x (option_bits bits t))
     (omega arith)
 
-group_back-fits : (a : GroupAddress) → length (group_back a) ≤ 64
+pub group_back-fits : (a : GroupAddress) → length (group_back a) ≤ 64
 group_back-fits a =
     let le = option-length address_width a.address_extension in
     let lv = option-length address_width a.vgssi in
@@ -98,7 +80,7 @@ unfoldable pub uplink_back : GroupIdentityUplink → Bits
 uplink_back g = group_back (uplink_address_in g)
 
 abbrev pub uplink_parts : GroupIdentityUplink → List Bits
-uplink_parts g = uplink_front g ∷ uplink_back g ∷ []
+uplink_parts = group_parts uplink_front uplink_address_in
 
 pub uplink_parts_lem : (g : GroupIdentityUplink) → joined (uplink_parts g) ≡ uplink_bits g
 unfolding joined uplink_front uplink_back uplink_bits
@@ -118,13 +100,6 @@ uplink_back-fits g = group_back-fits (uplink_address_in g)
 
 -- ## downlinks
 
-pub attachment-parts : (p : Bool) (t : GroupIdentityAttachment)
-    → option_bits (digits lifetime_width) (held p t.group_identity_attachment_lifetime) ++ option_bits (digits class_of_usage_width) (held p t.class_of_usage)
-    ≡ option_bits attachment_bits (held p t)
-unfolding attachment_bits
-attachment-parts true t = refl
-attachment-parts false t = refl
-
 unfoldable pub downlink_front : GroupIdentityDownlink → Bits
 downlink_front g = group_front attachment_bits downlink_forms (downlink_attachment g) (downlink_detachment g) (downlink_address_in g)
 
@@ -132,7 +107,7 @@ unfoldable pub downlink_back : GroupIdentityDownlink → Bits
 downlink_back g = group_back (downlink_address_in g)
 
 abbrev pub downlink_parts : GroupIdentityDownlink → List Bits
-downlink_parts g = downlink_front g ∷ downlink_back g ∷ []
+downlink_parts = group_parts downlink_front downlink_address_in
 
 pub downlink_parts_lem : (g : GroupIdentityDownlink) → joined (downlink_parts g) ≡ downlink_bits g
 unfolding joined downlink_front downlink_back downlink_bits
@@ -161,13 +136,10 @@ downlink_back-fits g = group_back-fits (downlink_address_in g)
 -- ## the groups of a list
 
 module _ {G : Type 0} (parts : G → List Bits) where
-  pub each_none : {w : Written} (gs : List G) → Puts (each parts (take 0 gs)) w w
-  unfolding each
-  each_none gs = nothing
-
-  pub each-one : {w v u : Written} (gs : List G) (i : ℕ) (d : G) → i < length gs → Puts (each parts (take i gs)) w v → Puts (parts (get_or gs i d)) v u
+  -- one more
+  pub each-one : {w v u : Written} (gs : List G) (i : ℕ) {g : G} → i < length gs → g ≡ get_or gs i g → Puts (each parts (take i gs)) w v → Puts (parts g) v u
       → Puts (each parts (take (i + 1) gs)) w u
-  each-one gs i d h p q = rw (each_more parts gs i d h) (p ⨾ q)
+  each-one gs i {g} h e p q = rw (each_more parts gs i g h, ← e) (p ⨾ q)
 
   -- they are the bits of each group
   pub each-joined : (bits : G → Bits) → ((g : G) → joined (parts g) ≡ bits g) → (gs : List G) → joined (each parts gs) ≡ each bits gs

@@ -4,28 +4,21 @@ use Rattle.std.proofs.Common.{arith, sym, length-append}
 use Rattle.std.specs.Prelude.{◌≡◌, Bool, cond, not, ◌&&◌, ◌||◌, length, take, get_or, leb, is_some}
 use Rattle.std.proofs.Math.Path.{refl}
 use Rattle.std.proofs.Math.Bool.{true, false, and-true, and_assoc}
-use Rattle.std.specs.Prelude.{Option}
+use Rattle.std.specs.Prelude.{Option, None, Some}
 use mathlib.Core.List.{List, [], ◌∷◌}
 use Rattle.std.proofs.Math.Dec.{ltb}
-use borrow.Author.Tests.{ltb-false}
+use Rattle.std.proofs.lemmas.Bool.{lt-ltb, ltb-true, ltb-false, le-ltb}
 use Rattle.bits.specs.Bits.{Bits, digits}
 use Rattle.bits.specs.BitsLaws.{length_digits}
 use Rattle.elements.specs.Numbers.{held, option_bits, option_all, in_width, flag_width}
-use Rattle.elements.specs.Groups.{Form, address_width, address_type_width, address_bits, form_of, type_of, listed_form, uplink_forms, downlink_forms, kind_of, detachment_width, lifetime_width, class_of_usage_width, attachment_bits, attachment_fits, group_bits}
+use Rattle.elements.specs.Groups.{Form, group_fits, differ, same_form, address_width, address_type_width, address_bits, form_of, type_of, listed_form, uplink_forms, downlink_forms, kind_of, detachment_width, lifetime_width, class_of_usage_width, attachment_bits, attachment_fits, group_bits}
 use Rattle.elements.specs.Generics.{entries_width}
-use Rattle.elements.proofs.EachLaws.{each_more, take-most}
+use Rattle.elements.proofs.EachLaws.{each_more}
 use Rattle.elements.specs.Lists.{Groups, downlinks, list_as, each, all, list_bits, list_held, list_fits, list_one, list_listed}
 use Rattle.elements.specs.declared.group_identity_attachment.GroupIdentityAttachment.{GroupIdentityAttachment}
 use Rattle.elements.specs.declared.group_address.GroupAddress.{GroupAddress}
-use Rattle.element_writers.specs.GroupParts.{same_eight, attachment-length}
+use Rattle.element_writers.specs.GroupParts.{attachment-length}
 use Rattle.element_writers.specs.declared.group_address.GroupsAsked.{GroupsAsked}
-
-abbrev pub address_held : GroupAddress → GroupAddress
-address_held a = record {
-  gssi = held a.gssi_present a.gssi;
-  address_extension = held a.address_extension_present a.address_extension;
-  vgssi = held a.vgssi_present a.vgssi;
-}
 
 -- how many bits the parts of an address have
 abbrev pub address_size : GroupAddress → ℕ
@@ -63,32 +56,27 @@ asked_empty p = asked_list downlinks (list_as downlinks p [])
 
 -- ## laws
 
-pub option_below : (p : Bool) (v n : ℕ) → (not p || ltb v n) ≡ option_all (λ v. ltb v n) (held p v)
-option_below true v n = refl
-option_below false v n = refl
+-- the bits of what may be absent
+pub some-size : {A : Type 0} (bits : A → Bits) (w : ℕ) → ((a : A) → length (bits a) ≡ w) → (o : Option A) → cond (is_some o) w 0 ≡ length (option_bits bits o)
+some-size bits w h None = refl
+some-size bits w h (Some a) = sym (h a)
 
-pub option-size : (p : Bool) (w v : ℕ) → cond p w 0 ≡ length (option_bits (digits w) (held p v))
-option-size true w v = sym (length_digits w v)
-option-size false w v = refl
+pub number-size : (w : ℕ) (o : Option ℕ) → cond (is_some o) w 0 ≡ length (option_bits (digits w) o)
+number-size w = some-size (digits w) w (length_digits w)
 
-pub uplink_listed_lem : (g e v : Bool) → ((g && not v) || (not g && (not e && v))) ≡ listed_form uplink_forms (record { gssi = g; address_extension = e; vgssi = v })
-unfolding listed_form
-uplink_listed_lem = same_eight _ (λ g e v. listed_form uplink_forms (record { gssi = g; address_extension = e; vgssi = v })) refl
+-- a form is listed where its type is one of the listed ones
+pub listed-type : (fs : List Form) (h : Form) → ltb (type_of fs h) (length fs) ≡ listed_form fs h
+unfolding type_of listed_form
+listed-type [] h = refl
+listed-type (f ∷ fs) h = go (same_form f h) (listed-type fs h)
+  where
+    next : (n m : ℕ) (b : Bool) → ltb n m ≡ b → ltb (1 + n) (suc m) ≡ b
+    next n m true e = lt-ltb _ _ (omega (arith, ltb-true n m e))
+    next n m false e = le-ltb _ _ (omega (arith, ltb-false n m e))
 
-pub downlink_listed_lem : (g e v : Bool) → ((g && (e || not v)) || (not g && (not e && v))) ≡ listed_form downlink_forms (record { gssi = g; address_extension = e; vgssi = v })
-unfolding listed_form
-downlink_listed_lem = same_eight _ (λ g e v. listed_form downlink_forms (record { gssi = g; address_extension = e; vgssi = v })) refl
-
-pub attachment_fits_lem : (p : Bool) (t : GroupIdentityAttachment)
-    → (option_all (in_width lifetime_width) (held p t.group_identity_attachment_lifetime) && option_all (in_width class_of_usage_width) (held p t.class_of_usage))
-    ≡ option_all attachment_fits (held p t)
-unfolding attachment_fits
-attachment_fits_lem true t = refl
-attachment_fits_lem false t = refl
-
-pub attachment-size : (p : Bool) (t : GroupIdentityAttachment) → cond p 5 0 ≡ length (option_bits attachment_bits (held p t))
-attachment-size true t = sym (attachment-length t)
-attachment-size false t = refl
+    go : (b : Bool) → ltb (type_of fs h) (length fs) ≡ listed_form fs h → ltb (cond b 0 (1 + type_of fs h)) (length (f ∷ fs)) ≡ (b || listed_form fs h)
+    go true e = lt-ltb _ _ (omega arith)
+    go false e = next (type_of fs h) (length fs) (listed_form fs h) e
 
 -- the bits of a group
 pub group-size : {T : Type 0} (bits : T → Bits) (forms : List Form) (t : Option T) (d : Option ℕ) (a : GroupAddress)
@@ -100,6 +88,23 @@ group-size bits forms t d a =
     let lx : length x ≡ 1 = length_digits flag_width (kind_of (is_some t)) in
     let lz : length z ≡ 2 = length_digits address_type_width (type_of forms (form_of a)) in
     sym (simp length-append (omega arith))
+
+-- what is asked of a group whose attachment says w bits
+pub group-asked : {T : Type 0} (bits : T → Bits) (fits : T → Bool) (w : ℕ) → ((t : T) → length (bits t) ≡ w) → (forms : List Form) (t : Option T) (d : Option ℕ) (a : GroupAddress)
+    → ◌≡◌ {A = GroupsAsked}
+    (record {
+      fits = group_fits fits t d a;
+      one = differ (is_some t) (is_some d);
+      listed = ltb (type_of forms (form_of a)) (length forms);
+      size = 3 + (cond (is_some t) w 0 + (cond (is_some d) detachment_width 0 + address_size a));
+    })
+    (record {
+      fits = group_fits fits t d a;
+      one = differ (is_some t) (is_some d);
+      listed = listed_form forms (form_of a);
+      size = length (group_bits bits forms t d a);
+    })
+group-asked bits fits w h forms t d a = rw (some-size bits w h t, number-size detachment_width d, group-size bits forms t d a, listed-type forms (form_of a))
 
 -- one group after the other
 module _ {G L : Type 0} (k : Groups G L) where
@@ -117,42 +122,33 @@ module _ {G L : Type 0} (k : Groups G L) where
   unfolding list_fits list_one list_listed all each
   none_asked = refl
 
-  pub asked-more : (gs : List G) (i : ℕ) (d : G) {x y : GroupsAsked} → i < length gs → x ≡ asked_each k (take i gs) → y ≡ asked_of k (get_or gs i d)
+  pub asked-more : (gs : List G) (i : ℕ) {g : G} {x y : GroupsAsked} → i < length gs → g ≡ get_or gs i g → x ≡ asked_each k (take i gs) → y ≡ asked_of k g
       → asked_both x y ≡ asked_each k (take (i + 1) gs)
-  asked-more gs i d h e f =
+  asked-more gs i {g} h is e f =
       rw (
         e,
         f,
-        all_more k.fits gs i d h,
-        all_more k.one gs i d h,
-        all_more k.listed gs i d h,
-        each_more k.bits gs i d h,
-        length-append (each k.bits (take i gs)) (k.bits (get_or gs i d)),
+        all_more k.fits gs i g h,
+        all_more k.one gs i g h,
+        all_more k.listed gs i g h,
+        each_more k.bits gs i g h,
+        ← is,
+        length-append (each k.bits (take i gs)) (k.bits g),
       )
 
   -- the list, present and absent
-  pub list-asked : (l : L) (n : ℕ) {x : GroupsAsked} → k.present l ≡ true → x ≡ asked_each k (take n (k.groups l)) → n ≡ min (k.count l) 63 → length (k.groups l) ≡ 63
-      → asked_both (asked_count (k.count l)) x ≡ asked_list k l
+  pub list-asked : (l : L) {x : GroupsAsked} → k.present l ≡ true → x ≡ asked_each k (take (k.count l) (k.groups l)) → asked_both (asked_count (k.count l)) x ≡ asked_list k l
   unfolding list_fits list_one list_listed list_bits
-  list-asked l n p e m h =
-      rw (p, e, m, take-most (k.count l) 63 (k.groups l) h)
+  list-asked l p e =
+      rw (p, e)
       (rw (length-append (digits entries_width (k.count l)) (each k.bits (take (k.count l) (k.groups l))), length_digits entries_width (k.count l)))
 
   pub no_list-asked : (l : L) → k.present l ≡ false → asked_empty false ≡ asked_list k l
   unfolding list_fits list_one list_listed
   no_list-asked l p = rw p
 
-  -- absent, or without entries
-  pub no_groups-asked : (l : L) → (k.present l && ltb 0 (k.count l)) ≡ false → asked_empty (k.present l) ≡ asked_list k l
-  unfolding list_fits list_one list_listed list_bits all each
-  no_groups-asked l h = go (k.present l) refl h
-    where
-      go : (p : Bool) → k.present l ≡ p → (p && ltb 0 (k.count l)) ≡ false → asked_empty p ≡ asked_list k l
-      go true p e = let z : k.count l ≡ 0 = omega (arith, ltb-false 0 (k.count l) e) in rw (p, z)
-      go false p e = no_list-asked l p
-
 -- a list without entries passes them; it has the bits of its count, or none
 pub empty-asked : (p : Bool) → ◌≡◌ {A = GroupsAsked} (record { fits = true; one = true; listed = true; size = cond p 6 0 }) (asked_empty p)
 unfolding list_fits list_one list_listed all each
-empty-asked true = list-asked downlinks (list_as downlinks true []) 0 refl refl refl refl
+empty-asked true = list-asked downlinks (list_as downlinks true []) refl refl
 empty-asked false = refl

@@ -1,3 +1,4 @@
+pub mod ClassFits
 pub mod GroupParts
 pub mod GroupsAsked
 pub mod SavingAsked

@@ -4,7 +4,7 @@ ghost use Rattle.bits.specs.Written.{Holds};
 ghost use Rattle.elements.specs.Numbers.{type2_bits, held, option_all};
 ghost use Rattle.elements.specs.ClassOfMs.{class_fields, class_bits, class_fits};
 
-use bits::bitbuffer::{Digits, NO_DIGITS};
+use bits::bitbuffer::{Digits, NO_DIGITS, within};
 use elements::class_of_ms::{ClassOfMs, OptionalClassOfMs};
 
 // How many bits each field has.
@@ -48,10 +48,8 @@ fn present_class(m: ClassOfMs) -> Digits
 {
     let values = fields_of(m);
     let mut d = NO_DIGITS.then(1, 1);
-    let mut i: usize = 0;
-    while i < 22 {
-        d = d.then(values[i] as u64, WIDTHS[i]);
-        i += 1;
+    for (value, width) in values.iter().zip(&WIDTHS) {
+        d = d.then(*value as u64, *width);
     }
     d
 }
@@ -71,28 +69,11 @@ pub fn type2_class(o: OptionalClassOfMs) -> Digits
 fn fits(m: ClassOfMs) -> bool
     ensures { result ≡ class_fits m }
 {
-    (m.freq_simplex_duplex < 2)
-        & (m.multislot_phase_mod < 2)
-        & (m.concurrent_multicarrier < 2)
-        & (m.voice < 2)
-        & (m.e2e_encryption_not_supported < 2)
-        & (m.circuit_mode_data < 2)
-        & (m.tetra_packet_data < 2)
-        & (m.fast_switching < 2)
-        & (m.dck_encryption < 2)
-        & (m.clch_needed < 2)
-        & (m.concurrent_circuit_mode < 2)
-        & (m.original_advanced_link < 2)
-        & (m.minimum_mode < 2)
-        & (m.carrier_specific_signalling < 2)
-        & (m.authentication < 2)
-        & (m.sck_encryption < 2)
-        & (m.air_interface_version < 8)
-        & (m.common_scch < 2)
-        & (m.reserved_21 < 2)
-        & (m.mac_d_blck < 2)
-        & (m.extended_advanced_link < 2)
-        & (m.d8psk < 2)
+    let values = fields_of(m);
+    values
+        .iter()
+        .zip(&WIDTHS)
+        .all(|(value, width)| within(*value as u64, *width))
 }
 
 // The same of a class of MS that may be absent.

@@ -1,25 +1,14 @@
 // Energy saving information (EN 300 392-2, clause 16.10.10).
 ghost use Rattle.std.specs.Prelude.{◌≡◌};
 ghost use Rattle.bits.specs.Written.{Joined};
-ghost use Rattle.elements.specs.Numbers.{type2_bits, held, value_or, in_u8};
+ghost use Rattle.elements.specs.Numbers.{type2_bits, held};
 ghost use Rattle.elements.specs.EnergySaving.{saving_bits};
 ghost use Rattle.element_writers.specs.SavingAsked.{saving_asked};
 
-use crate::group_address::below_if;
+use crate::typed_pdu_fields::{Held, ask_type2};
 use bits::bitbuffer::Digits;
 use elements::energy_saving_information::OptionalEnergySavingInformation;
 use elements::energy_saving_mode::STAY_ALIVE;
-use elements::typed_pdu_fields::OptionalU8;
-
-// An absent number is written 0.
-fn or_zero(o: OptionalU8) -> u64
-    ensures { result ≡ value_or 0 (in_u8 o) }
-{
-    if o.present {
-        return o.value as u64;
-    }
-    0
-}
 
 // A type 2 element, behind other bits: the P-bit, and the energy saving information if it is present.
 pub fn then_saving(d: Digits, o: OptionalEnergySavingInformation) -> Digits
@@ -27,12 +16,12 @@ pub fn then_saving(d: Digits, o: OptionalEnergySavingInformation) -> Digits
 {
     let e = o.value;
     if o.present {
-        let frame = e.frame_number;
-        let multiframe = e.multiframe_number;
+        let frame = e.frame_number.held();
+        let multiframe = e.multiframe_number.held();
         let p = d.then(1, 1);
         let m = p.then(e.energy_saving_mode as u64, 3);
-        let f = m.then(or_zero(frame), 5);
-        return f.then(or_zero(multiframe), 6);
+        let f = m.then(frame.unwrap_or(0), 5);
+        return f.then(multiframe.unwrap_or(0), 6);
     }
     d.then(0, 1)
 }
@@ -51,16 +40,13 @@ pub fn ask_saving(o: OptionalEnergySavingInformation) -> SavingAsked
 {
     let e = o.value;
     if o.present {
-        let frame = e.frame_number;
-        let multiframe = e.multiframe_number;
+        let frame = e.frame_number.held();
+        let multiframe = e.multiframe_number.held();
         let mode = e.energy_saving_mode;
-        let f = frame.present;
-        let n = multiframe.present;
         return SavingAsked {
-            fits: (mode < 8)
-                & (below_if(f, frame.value as u32, 32) & below_if(n, multiframe.value as u32, 64)),
-            alive: (mode != STAY_ALIVE) | (!f & !n),
-            saving: (mode == STAY_ALIVE) | (f & n),
+            fits: (mode < 8) & (ask_type2(frame, 5) & ask_type2(multiframe, 6)),
+            alive: (mode != STAY_ALIVE) | (frame.is_none() & multiframe.is_none()),
+            saving: (mode == STAY_ALIVE) | (frame.is_some() & multiframe.is_some()),
         };
     }
     SavingAsked {

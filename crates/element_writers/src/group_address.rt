@@ -1,57 +1,38 @@
 // The address of a group (EN 300 392-2, clauses 16.10.22 and 16.10.27): the parts that its address type has.
-ghost use Rattle.std.specs.Prelude.{◌≡◌, ◌+◌, ◌≤◌, min, ltb};
-ghost use Rattle.elements.specs.Numbers.{held, option_all};
-ghost use Rattle.elements.specs.Groups.{address_fits, type_of, uplink_forms, downlink_forms};
+ghost use Rattle.std.specs.Prelude.{◌≡◌, ◌+◌, ◌≤◌};
+ghost use Rattle.bits.specs.Bits.{digits};
+ghost use Rattle.bits.specs.Written.{Joined};
+ghost use Rattle.elements.specs.Numbers.{option_bits, option_all, in_width};
+ghost use Rattle.elements.specs.Groups.{address_width, address_fits, form_of, type_of, uplink_forms, downlink_forms};
 ghost use Rattle.element_writers.specs.LocationAsked.{location_of};
-ghost use Rattle.element_writers.specs.GroupsAsked.{address_held, address_size, asked_empty, asked_count, asked_both};
+ghost use Rattle.element_writers.specs.GroupsAsked.{address_size, asked_empty, asked_count, asked_both};
 
 use crate::typed_pdu_fields::{nested_size, width_if};
+use bits::bitbuffer::Digits;
 use elements::group_address::GroupAddress;
 
 // The address type of the parts that are present; past the last type where they are not listed.
-pub(crate) fn uplink_type(gssi: bool, extension: bool, vgssi: bool) -> u64
-    ensures { result ≡ type_of uplink_forms (record { gssi = gssi; extension = extension; vgssi = vgssi }) }
+pub(crate) fn uplink_type(a: GroupAddress) -> u64
+    ensures { result ≡ type_of uplink_forms (form_of a) }
 {
-    if vgssi {
-        if gssi {
-            return 3;
-        }
-        if extension {
-            return 3;
-        }
-        return 2;
+    match (a.gssi, a.address_extension, a.vgssi) {
+        (Some(_), None, None) => 0,
+        (Some(_), Some(_), None) => 1,
+        (None, None, Some(_)) => 2,
+        _ => 3,
     }
-    if gssi {
-        if extension {
-            return 1;
-        }
-        return 0;
-    }
-    3
 }
 
-pub(crate) fn downlink_type(gssi: bool, extension: bool, vgssi: bool) -> u64
-    ensures { result ≡ type_of downlink_forms (record { gssi = gssi; extension = extension; vgssi = vgssi }) }
+pub(crate) fn downlink_type(a: GroupAddress) -> u64
+    ensures { result ≡ type_of downlink_forms (form_of a) }
 {
-    if vgssi {
-        if gssi {
-            if extension {
-                return 3;
-            }
-            return 4;
-        }
-        if extension {
-            return 4;
-        }
-        return 2;
+    match (a.gssi, a.address_extension, a.vgssi) {
+        (Some(_), None, None) => 0,
+        (Some(_), Some(_), None) => 1,
+        (None, None, Some(_)) => 2,
+        (Some(_), Some(_), Some(_)) => 3,
+        _ => 4,
     }
-    if gssi {
-        if extension {
-            return 1;
-        }
-        return 0;
-    }
-    4
 }
 
 // What questions 8, 10 and 11 find of a group or of a list, and the bits that it has.
@@ -139,31 +120,28 @@ pub(crate) fn location_of(own: bool, listed: bool, a: GroupsAsked) -> LocationAs
     }
 }
 
-// As many groups as a list has room for.
-pub fn at_most_63(count: usize) -> usize
-    ensures { result ≡ min count 63 }
+// A part of an address, behind other bits: it has 24 bits.
+pub(crate) fn then_part(d: Digits, part: Option<u32>) -> Digits
+    ensures { Joined d (option_bits (digits address_width) part) result }
 {
-    if count < 63 { count } else { 63 }
+    d.then(part.unwrap_or(0) as u64, width_if(part.is_some(), 24))
 }
 
-// Whether a number, if it is present, is below the limit.
-pub(crate) fn below_if(present: bool, value: u32, limit: u32) -> bool
-    ensures { result ≡ option_all (λ v. ltb v limit) (held present value) }
+fn part_fits(part: Option<u32>) -> bool
+    ensures { result ≡ option_all (in_width address_width) part }
 {
-    !present | (value < limit)
+    part.is_none_or(|v| v < 0x1000000)
 }
 
 pub(crate) fn address_fits(a: GroupAddress) -> bool
-    ensures { result ≡ address_fits (address_held a) }
+    ensures { result ≡ address_fits a }
 {
-    below_if(a.gssi_present, a.gssi, 0x1000000)
-        & (below_if(a.address_extension_present, a.address_extension, 0x1000000)
-            & below_if(a.vgssi_present, a.vgssi, 0x1000000))
+    part_fits(a.gssi) & (part_fits(a.address_extension) & part_fits(a.vgssi))
 }
 
 pub(crate) fn address_size(a: GroupAddress) -> usize
-    ensures { (result ≡ address_size (address_held a)) × (result ≤ 72) }
+    ensures { (result ≡ address_size a) × (result ≤ 72) }
 {
-    width_if(a.gssi_present, 24)
-        + (width_if(a.address_extension_present, 24) + width_if(a.vgssi_present, 24))
+    width_if(a.gssi.is_some(), 24)
+        + (width_if(a.address_extension.is_some(), 24) + width_if(a.vgssi.is_some(), 24))
 }

@@ -1,11 +1,9 @@
 // Group identity attachment (EN 300 392-2, clause 16.10.19).
 ghost use Rattle.std.specs.Prelude.{◌≡◌};
 ghost use Rattle.elements.specs.Groups.{kind_of, attachment_bits, attachment_fits};
-ghost use Rattle.elements.specs.Numbers.{held, option_bits, option_all};
+ghost use Rattle.elements.specs.Numbers.{option_bits, option_all};
 ghost use Rattle.bits.specs.Written.{Joined};
 
-use crate::group_address::below_if;
-use crate::typed_pdu_fields::then_if;
 use bits::bitbuffer::Digits;
 use elements::group_identity_attachment::GroupIdentityAttachment;
 
@@ -13,21 +11,27 @@ use elements::group_identity_attachment::GroupIdentityAttachment;
 pub(crate) fn kind_of(attached: bool) -> u64
     ensures { result ≡ kind_of attached }
 {
-    if attached { 0 } else { 1 }
+    !attached as u64
 }
 
 // An attachment that may be absent, behind other bits.
-pub(crate) fn then_attachment(d: Digits, present: bool, t: GroupIdentityAttachment) -> Digits
-    ensures { Joined d (option_bits attachment_bits (held present t)) result }
+pub(crate) fn then_attachment(d: Digits, o: Option<GroupIdentityAttachment>) -> Digits
+    ensures { Joined d (option_bits attachment_bits o) result }
 {
-    let e = then_if(d, present, t.group_identity_attachment_lifetime as u64, 2);
-    then_if(e, present, t.class_of_usage as u64, 3)
+    match o {
+        Some(t) => d
+            .then(t.group_identity_attachment_lifetime as u64, 2)
+            .then(t.class_of_usage as u64, 3),
+        None => d.then(0, 0),
+    }
 }
 
 // Whether its numbers, if it is present, are in their widths.
-pub(crate) fn attachment_fits(present: bool, t: GroupIdentityAttachment) -> bool
-    ensures { result ≡ option_all attachment_fits (held present t) }
+pub(crate) fn attachment_fits(o: Option<GroupIdentityAttachment>) -> bool
+    ensures { result ≡ option_all attachment_fits o }
 {
-    below_if(present, t.group_identity_attachment_lifetime as u32, 4)
-        & below_if(present, t.class_of_usage as u32, 8)
+    match o {
+        Some(t) => (t.group_identity_attachment_lifetime < 4) & (t.class_of_usage < 8),
+        None => true,
+    }
 }

@@ -5,8 +5,8 @@ ghost use Rattle.bits.specs.Written.{written};
 ghost use Rattle.bits.specs.PutsLaws.{Puts};
 ghost use Rattle.element_writers.specs.LocationAsked.{accept_location_asked, accept_location_parts};
 
-use crate::group_address::{LocationAsked, NO_LOCATION, location_of, no_groups};
-use crate::group_identity_downlink::{ask_downlinks, put_nested};
+use crate::group_address::{LocationAsked, NO_LOCATION, location_of};
+use crate::group_list::{ask_list, put_nested};
 use crate::typed_pdu_fields::element_header;
 use bits::bitbuffer::Place;
 use elements::group_identity_location_accept::OptionalLocationAccept;
@@ -17,14 +17,12 @@ pub fn ask_location_accept(o: OptionalLocationAccept) -> LocationAsked
     ensures { (result ≡ accept_location_asked o) × (result.content ≤ 5192) }
 {
     if o.present {
-        let location = o.value;
-        let number = location.group_identity_accept_reject;
-        let list = location.group_identity_downlink;
-        if list.present & (0 < list.count) {
-            let a = ask_downlinks(list);
-            return location_of(number < 2, list.present, a);
-        }
-        return location_of(number < 2, list.present, no_groups(list.present));
+        let list = &o.value.group_identity_downlink;
+        return location_of(
+            o.value.group_identity_accept_reject < 2,
+            list.present,
+            ask_list(list),
+        );
     }
     NO_LOCATION
 }
@@ -40,13 +38,10 @@ pub fn write_location_accept(
     ensures { Puts (accept_location_parts list content o) (written octets.old (as_place m)) (written octets.new (as_place result)) }
 {
     if o.present {
-        let location = o.value;
-        let number = location.group_identity_accept_reject;
-        let groups = location.group_identity_downlink;
         let h = element_header(GROUP_IDENTITY_LOCATION_ACCEPT, content);
-        let b = h.then(number as u64, 1);
+        let b = h.then(o.value.group_identity_accept_reject as u64, 1);
         let front = b.then(0, 1);
-        return put_nested(m, octets, front, groups, list);
+        return put_nested(m, octets, front, &o.value.group_identity_downlink, list);
     }
     m
 }

@@ -6,7 +6,7 @@ ghost use Rattle.bits.specs.PutsLaws.{Puts};
 ghost use Rattle.element_writers.specs.LocationAsked.{demand_location_asked, demand_location_parts};
 
 use crate::group_address::{LocationAsked, NO_LOCATION, location_of};
-use crate::group_identity_uplink::{ask_uplinks, put_nested};
+use crate::group_list::{ask_list, put_nested};
 use crate::typed_pdu_fields::element_header;
 use bits::bitbuffer::Place;
 use elements::group_identity_location_demand::OptionalLocationDemand;
@@ -17,11 +17,12 @@ pub fn ask_location_demand(o: OptionalLocationDemand) -> LocationAsked
     ensures { (result ≡ demand_location_asked o) × (result.content ≤ 5192) }
 {
     if o.present {
-        let location = o.value;
-        let number = location.group_identity_attach_detach_mode;
-        let list = location.group_identity_uplink;
-        let a = ask_uplinks(list);
-        return location_of(number < 2, list.present, a);
+        let list = &o.value.group_identity_uplink;
+        return location_of(
+            o.value.group_identity_attach_detach_mode < 2,
+            list.present,
+            ask_list(list),
+        );
     }
     NO_LOCATION
 }
@@ -37,13 +38,10 @@ pub fn write_location_demand(
     ensures { Puts (demand_location_parts list content o) (written octets.old (as_place m)) (written octets.new (as_place result)) }
 {
     if o.present {
-        let location = o.value;
-        let number = location.group_identity_attach_detach_mode;
-        let groups = location.group_identity_uplink;
         let h = element_header(GROUP_IDENTITY_LOCATION_DEMAND, content);
         let b = h.then(0, 1);
-        let front = b.then(number as u64, 1);
-        return put_nested(m, octets, front, groups, list);
+        let front = b.then(o.value.group_identity_attach_detach_mode as u64, 1);
+        return put_nested(m, octets, front, &o.value.group_identity_uplink, list);
     }
     m
 }

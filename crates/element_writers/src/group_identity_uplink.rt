@@ -1,165 +1,98 @@
 // Group identity uplink (EN 300 392-2, clause 16.10.27).
-ghost use Rattle.std.specs.Prelude.{◌≡◌, ◌*◌, ◌≤◌, take};
-ghost use Rattle.bits.specs.Placed.{as_place};
-ghost use Rattle.bits.specs.Written.{Holds, written, bits_in};
-ghost use Rattle.bits.specs.PutsLaws.{Puts};
-ghost use Rattle.element_writers.specs.GroupsAsked.{asked_of, asked_each, asked_list};
+ghost use Rattle.std.specs.Prelude.{◌≡◌, ◌≤◌};
+ghost use Rattle.element_writers.specs.GroupsAsked.{asked_list};
+ghost use Rattle.element_writers.specs.GroupParts.{uplink_front, uplink_front-fits};
+ghost use Rattle.elements.specs.Groups.{uplink_class, uplink_detachment, uplink_address_in};
 ghost use Rattle.elements.specs.Locations.{group_identity_uplink_identifier};
-ghost use Rattle.element_writers.specs.WrittenElements.{list_parts, nested_parts};
-ghost use Rattle.element_writers.specs.GroupParts.{uplink_front, uplink_back, uplink_parts};
-ghost use Rattle.elements.specs.Lists.{uplinks, each, list};
+ghost use Rattle.elements.specs.Lists.{uplinks};
 
-use crate::group_address::{
-    GroupsAsked, address_fits, address_size, at_most_63, below_if, count_asked, no_groups,
-    uplink_type,
-};
+use crate::group_address::{GroupsAsked, address_fits, address_size, then_part, uplink_type};
 use crate::group_identity_attachment::kind_of;
-use crate::typed_pdu_fields::{bit_of, element_header, then_if, width_if};
-use bits::bitbuffer::{Digits, NO_DIGITS, Place};
+use crate::group_list::{GroupList, ask_list};
+use crate::typed_pdu_fields::{ask_type2, then_if, width_if};
+use bits::bitbuffer::{Digits, NO_DIGITS};
 use elements::group_address::GroupAddress;
 use elements::group_identity_uplink::{GroupIdentityUplink, OptionalUplinks};
 use elements::type34_elem_id_ul::GROUP_IDENTITY_UPLINK;
 
-// The bits of a group in two fields: those up to the GSSI, and the rest.
-fn front(g: GroupIdentityUplink) -> Digits
-    ensures { Holds result (uplink_front g) }
+// The class of usage of an attachment.
+fn class_of(g: GroupIdentityUplink) -> Option<u64>
+    ensures { result ≡ uplink_class g }
 {
-    let k = NO_DIGITS.then(kind_of(g.class_of_usage_present), 1);
-    let u = then_if(k, g.class_of_usage_present, g.class_of_usage as u64, 3);
-    let d = then_if(
-        u,
-        g.group_identity_detachment_uplink_present,
-        g.group_identity_detachment_uplink as u64,
-        2,
-    );
-    let t = d.then(
-        uplink_type(g.gssi_present, g.address_extension_present, g.vgssi_present),
-        2,
-    );
-    then_if(t, g.gssi_present, g.gssi as u64, 24)
+    g.class_of_usage_present.then_some(g.class_of_usage as u64)
 }
 
-fn back(g: GroupIdentityUplink) -> Digits
-    ensures { Holds result (uplink_back g) }
+fn detachment_of(g: GroupIdentityUplink) -> Option<u64>
+    ensures { result ≡ uplink_detachment g }
 {
-    let e = then_if(
-        NO_DIGITS,
-        g.address_extension_present,
-        g.address_extension as u64,
-        24,
-    );
-    then_if(e, g.vgssi_present, g.vgssi as u64, 24)
+    g.group_identity_detachment_uplink_present
+        .then_some(g.group_identity_detachment_uplink as u64)
 }
 
-// The questions.
-fn asked_of(group: GroupIdentityUplink) -> GroupsAsked
-    ensures { (result ≡ asked_of uplinks group) × (result.size ≤ 82) }
-{
-    let u = group.class_of_usage_present;
-    let d = group.group_identity_detachment_uplink_present;
-    let g = group.gssi_present;
-    let e = group.address_extension_present;
-    let v = group.vgssi_present;
-    let address = GroupAddress {
-        gssi: group.gssi,
-        address_extension: group.address_extension,
-        vgssi: group.vgssi,
-        gssi_present: g,
-        address_extension_present: e,
-        vgssi_present: v,
-    };
-    GroupsAsked {
-        fits: below_if(u, group.class_of_usage as u32, 8)
-            & (below_if(d, group.group_identity_detachment_uplink as u32, 4)
-                & address_fits(address)),
-        one: u != d,
-        listed: (g & !v) | (!g & (!e & v)),
-        size: 3 + (width_if(u, 3) + (width_if(d, 2) + address_size(address))),
+impl GroupList for OptionalUplinks {
+    type Group = GroupIdentityUplink;
+
+    ghost kind = { uplinks };
+
+    ghost front = { uplink_front };
+
+    ghost address = { uplink_address_in };
+
+    ghost IDENTIFIER = { group_identity_uplink_identifier };
+
+    ghost front_fits = { uplink_front-fits };
+
+    const IDENTIFIER: u8 = GROUP_IDENTITY_UPLINK;
+
+    fn presence(&self) -> bool {
+        self.present
     }
-}
 
-// Both, one after the other.
-fn put(g: GroupIdentityUplink, m: Place, octets: &mut [u8]) -> Place
-    ensures { Puts (uplink_parts g) (written octets.old (as_place m)) (written octets.new (as_place result)) }
-{
-    let m1 = m.put(octets, front(g));
-    m1.put(octets, back(g))
-}
-
-// `count` groups, one after the other.
-fn put_uplinks(
-    m: Place,
-    octets: &mut [u8],
-    groups: [GroupIdentityUplink; 63],
-    count: usize,
-) -> Place
-    requires { count ≤ 63 }
-    ensures { Puts (each uplink_parts (take count groups)) (written octets.old (as_place m)) (written octets.new (as_place result)) }
-{
-    let mut place = m;
-    let mut i: usize = 0;
-    while i < count {
-        let g = groups[i];
-        place = put(g, place, octets);
-        i += 1;
+    fn count(&self) -> usize {
+        self.count
     }
-    place
-}
 
-// The questions of `count` groups together.
-fn ask_groups(groups: [GroupIdentityUplink; 63], count: usize) -> GroupsAsked
-    requires { count ≤ 63 }
-    ensures { (result ≡ asked_each uplinks (take count groups)) × (result.size ≤ 82 * 63) }
-{
-    let mut asked = no_groups(false);
-    let mut i: usize = 0;
-    while i < count {
-        let g = groups[i];
-        asked = asked.and(asked_of(g));
-        i += 1;
+    fn groups(&self) -> &[GroupIdentityUplink] {
+        let groups: &[GroupIdentityUplink] = &self.groups;
+        &groups[..self.count.min(groups.len())]
     }
-    asked
+
+    fn address(g: GroupIdentityUplink) -> GroupAddress {
+        GroupAddress {
+            gssi: g.gssi_present.then_some(g.gssi),
+            address_extension: g.address_extension_present.then_some(g.address_extension),
+            vgssi: g.vgssi_present.then_some(g.vgssi),
+        }
+    }
+
+    fn front(g: GroupIdentityUplink) -> Digits {
+        let class = class_of(g);
+        let a = OptionalUplinks::address(g);
+        let k = NO_DIGITS.then(kind_of(class.is_some()), 1);
+        let u = then_if(k, class, 3);
+        let d = then_if(u, detachment_of(g), 2);
+        let t = d.then(uplink_type(a), 2);
+        then_part(t, a.gssi)
+    }
+
+    fn ask(g: GroupIdentityUplink) -> GroupsAsked {
+        let class = class_of(g);
+        let detachment = detachment_of(g);
+        let a = OptionalUplinks::address(g);
+        let u = class.is_some();
+        let d = detachment.is_some();
+        GroupsAsked {
+            fits: ask_type2(class, 3) & (ask_type2(detachment, 2) & address_fits(a)),
+            one: u != d,
+            listed: uplink_type(a) < 3,
+            size: 3 + (width_if(u, 3) + (width_if(d, 2) + address_size(a))),
+        }
+    }
 }
 
 // The questions of a list; an absent one passes them, and has no bits.
 pub fn ask_uplinks(list: OptionalUplinks) -> GroupsAsked
     ensures { (result ≡ asked_list uplinks list) × (result.size ≤ 5172) }
 {
-    let count = list.count;
-    if list.present {
-        let groups = list.groups;
-        return count_asked(count).and(ask_groups(groups, at_most_63(count)));
-    }
-    no_groups(false)
-}
-
-// The list as an element, `size` being the length of its content.
-pub(crate) fn put_list(m: Place, octets: &mut [u8], list: OptionalUplinks, size: usize) -> Place
-    ensures { Puts (list_parts uplinks uplink_parts group_identity_uplink_identifier size list) (written octets.old (as_place m)) (written octets.new (as_place result)) }
-{
-    let count = list.count;
-    let groups = list.groups;
-    let h = element_header(GROUP_IDENTITY_UPLINK, size);
-    let m1 = m.put(octets, h.then(count as u64, 6));
-    put_uplinks(m1, octets, groups, at_most_63(count))
-}
-
-// A structure that holds the list: what stands before, the O-bit, and if it is present the list and the closing M-bit.
-pub(crate) fn put_nested(
-    m: Place,
-    octets: &mut [u8],
-    front: Digits,
-    list: OptionalUplinks,
-    size: usize,
-) -> Place
-    requires { front.width ≤ 63 }
-    ensures { Puts (nested_parts uplinks uplink_parts group_identity_uplink_identifier (bits_in front) size list) (written octets.old (as_place m)) (written octets.new (as_place result)) }
-{
-    let listed = list.present;
-    let m1 = m.put(octets, front.then(bit_of(listed), 1));
-    if listed {
-        let m2 = put_list(m1, octets, list, size);
-        return m2.put(octets, NO_DIGITS.then(0, 1));
-    }
-    m1
+    ask_list(&list)
 }

@@ -1,22 +1,39 @@
 // Numbers that may be absent, and the typed elements of annex E, as they are written: type 2 and type 3.
-ghost use Rattle.std.specs.Prelude.{◌≡◌, cond, ◌+◌, ◌≤◌};
+ghost use Rattle.std.specs.Prelude.{◌≡◌, ℕ, Option, cond, ◌+◌, ◌≤◌};
 ghost use Rattle.bits.specs.Placed.{as_place};
-ghost use Rattle.bits.specs.Bits.{bit, digits};
+ghost use Rattle.bits.specs.Bits.{digits};
 ghost use Rattle.bits.specs.Written.{Joined, Holds, written, next};
-ghost use Rattle.elements.specs.Numbers.{held, option_bits, option_all, in_width, type2_bits};
+ghost use Rattle.elements.specs.Numbers.{in_u8, in_u64, option_bits, option_all, in_width, type2_bits};
 ghost use Rattle.elements.specs.Generics.{type3_fits, type4_fits};
 ghost use Rattle.elements.specs.Kinds.{type3_held, type4_held};
 ghost use Rattle.element_writers.specs.WrittenElements.{header_bits, write_type3, type3_size};
 
 use bits::bitbuffer::{Digits, NO_DIGITS, Place, within};
 use bits::pdu_parse_error::PduParseErr;
-use elements::typed_pdu_fields::{OptionalType3, OptionalType4};
+use elements::typed_pdu_fields::{OptionalType3, OptionalType4, OptionalU8, OptionalU64};
 
-// An O-bit, an M-bit or a P-bit.
-pub fn bit_of(set: bool) -> u64
-    ensures { result ≡ bit set }
-{
-    if set { 1 } else { 0 }
+// A number that may be absent, as a record for C holds it.
+pub trait Held {
+    ghost held: { Self → Option ℕ };
+
+    fn held(self) -> Option<u64>
+        ensures { result ≡ held self };
+}
+
+impl Held for OptionalU8 {
+    ghost held = { in_u8 };
+
+    fn held(self) -> Option<u64> {
+        self.present.then_some(self.value as u64)
+    }
+}
+
+impl Held for OptionalU64 {
+    ghost held = { in_u64 };
+
+    fn held(self) -> Option<u64> {
+        self.present.then_some(self.value)
+    }
 }
 
 // The width of what may be absent.
@@ -27,28 +44,25 @@ pub fn width_if(present: bool, width: usize) -> usize
 }
 
 // A number that may be absent, behind others.
-pub fn then_if(d: Digits, present: bool, value: u64, width: usize) -> Digits
-    ensures { Joined d (option_bits (digits width) (held present value)) result }
+pub fn then_if(d: Digits, o: Option<u64>, width: usize) -> Digits
+    ensures { Joined d (option_bits (digits width) o) result }
 {
-    d.then(value, width_if(present, width))
+    d.then(o.unwrap_or(0), width_if(o.is_some(), width))
 }
 
 // A type 2 element, behind other bits: the P-bit, and the value if it is present.
-pub fn then_type2(d: Digits, present: bool, value: u64, width: usize) -> Digits
-    ensures { Joined d (type2_bits (digits width) (held present value)) result }
+pub fn then_type2(d: Digits, o: Option<u64>, width: usize) -> Digits
+    ensures { Joined d (type2_bits (digits width) o) result }
 {
-    let p = d.then(bit_of(present), 1);
-    then_if(p, present, value, width)
+    let p = d.then(o.is_some() as u64, 1);
+    then_if(p, o, width)
 }
 
-// Question 8 of a type 2 element: the value, if it is present, is in its width.
-pub fn ask_type2(present: bool, value: u64, width: usize) -> bool
-    ensures { result ≡ option_all (in_width width) (held present value) }
+// Question 8 of a number that may be absent: if it is present, it is in its width.
+pub fn ask_type2(o: Option<u64>, width: usize) -> bool
+    ensures { result ≡ option_all (in_width width) o }
 {
-    if present {
-        return within(value, width);
-    }
-    true
+    o.is_none_or(|v| within(v, width))
 }
 
 // What stands before the content of a type 3 or type 4 element: M-bit 1, identifier, length.

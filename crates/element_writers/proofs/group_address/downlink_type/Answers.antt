@@ -1,38 +1,31 @@
 -- `element_writers::group_address::downlink_type` meets its contract. Assumes nothing.
-use Rattle.element_writers.specs.GroupParts.{downlink_type}
+use Rattle.elements.specs.Groups.{type_of}
 use Rattle.element_writers.proofs.group_address.downlink_type.Goals as goal
 
-pub returns-then-extension : goal.returns-then-extension
-returns-then-extension c =
-    let a = c.args in
-    rw (← downlink_type a.gssi a.address_extension a.vgssi, c.if-vgssi.true, c.if-gssi.true, c.if-extension.true)
+pub returns-in-Some-None-None : goal.returns-in-Some-None-None
+unfolding type_of
+returns-in-Some-None-None c = rw (c.in-Some-None-None.is-0, c.in-Some-None-None.is-1, c.in-Some-None-None.is-2)
 
-pub returns-then-gssi : goal.returns-then-gssi
-returns-then-gssi c =
-    let a = c.args in
-    rw (← downlink_type a.gssi a.address_extension a.vgssi, c.if-vgssi.true, c.if-gssi.true, c.if-extension.false)
+pub returns-in-Some-Some-None : goal.returns-in-Some-Some-None
+unfolding type_of
+returns-in-Some-Some-None c = rw (c.in-Some-Some-None.is-0, c.in-Some-Some-None.is-1, c.in-Some-Some-None.is-2)
 
-pub returns-then-extension-2 : goal.returns-then-extension-2
-returns-then-extension-2 c =
-    let a = c.args in
-    rw (← downlink_type a.gssi a.address_extension a.vgssi, c.if-vgssi.true, c.if-gssi.false, c.if-extension-2.true)
+pub returns-in-Some-Some-Some : goal.returns-in-Some-Some-Some
+unfolding type_of
+returns-in-Some-Some-Some c = rw (c.in-Some-Some-Some.is-0, c.in-Some-Some-Some.is-1, c.in-Some-Some-Some.is-2)
 
-pub returns-then-vgssi : goal.returns-then-vgssi
-returns-then-vgssi c =
-    let a = c.args in
-    rw (← downlink_type a.gssi a.address_extension a.vgssi, c.if-vgssi.true, c.if-gssi.false, c.if-extension-2.false)
+pub returns-in-None-None-Some : goal.returns-in-None-None-Some
+unfolding type_of
+returns-in-None-None-Some c = rw (c.in-None-None-Some.is-0, c.in-None-None-Some.is-1, c.in-None-None-Some.is-2)
 
-pub returns-then-extension-3 : goal.returns-then-extension-3
-returns-then-extension-3 c =
-    let a = c.args in
-    rw (← downlink_type a.gssi a.address_extension a.vgssi, c.if-vgssi.false, c.if-gssi-2.true, c.if-extension-3.true)
+pub returns-in_default : goal.returns-in_default
+unfolding type_of
+returns-in_default c = rw (c.in_default.is-0, c.in_default.is-1, c.in_default.is-2)
 
-pub returns-then-gssi-2 : goal.returns-then-gssi-2
-returns-then-gssi-2 c =
-    let a = c.args in
-    rw (← downlink_type a.gssi a.address_extension a.vgssi, c.if-vgssi.false, c.if-gssi-2.true, c.if-extension-3.false)
+pub returns-in_default-2 : goal.returns-in_default-2
+unfolding type_of
+returns-in_default-2 c = rw (c.in_default.is-0, c.in_default.is-1, c.in_default.is-2)
 
-pub returns : goal.returns
-returns c =
-    let a = c.args in
-    rw (← downlink_type a.gssi a.address_extension a.vgssi, c.if-vgssi.false, c.if-gssi-2.false)
+pub returns-in_default-3 : goal.returns-in_default-3
+unfolding type_of
+returns-in_default-3 c = rw (c.in_default.is-0, c.in_default.is-1)

@@ -1,9 +1,12 @@
 -- `element_writers::group_identity_attachment::then_attachment` meets its contract. Assumes nothing.
 use Rattle.bits.specs.DigitsLaws.{joined-twice}
-use Rattle.element_writers.specs.GroupParts.{attachment-parts}
+use Rattle.elements.specs.Groups.{attachment_bits}
+use Rattle.element_writers.specs.GroupParts.{no-digits}
 use Rattle.element_writers.proofs.group_identity_attachment.then_attachment.Goals as goal
 
-pub returns : goal.returns
-returns c =
-    let a = c.args in
-    rw (← attachment-parts a.present a.t) (joined-twice c.then_if-e.ensures c.then_if.ensures)
+pub returns-in-Some : goal.returns-in-Some
+unfolding attachment_bits
+returns-in-Some c = rw c.in-Some.is (joined-twice c.then.ensures c.then-in-Some.ensures)
+
+pub returns-in-None : goal.returns-in-None
+returns-in-None c = rw (c.in-None.is, ← no-digits 0) c.then-in-None.ensures

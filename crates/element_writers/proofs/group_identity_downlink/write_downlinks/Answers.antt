@@ -2,10 +2,5 @@
 use Rattle.bits.specs.PutsLaws.{nothing}
 use Rattle.element_writers.proofs.group_identity_downlink.write_downlinks.Goals as goal
 
-pub returns-then-list : goal.returns-then-list
-returns-then-list c =
-    rw c.if-list.true c.put_list.ensures
-
 pub returns : goal.returns
-returns c =
-    rw c.if-list.false nothing
+returns c = rw c.if-list.false nothing

@@ -1,8 +1,6 @@
 -- `element_writers::typed_pdu_fields::then_type2` meets its contract. Assumes nothing.
-use Rattle.elements.proofs.NumbersLaws.{is_some-held}
 use Rattle.bits.specs.DigitsLaws.{joined-twice}
 use Rattle.element_writers.proofs.typed_pdu_fields.then_type2.Goals as goal
 
 pub returns : goal.returns
-returns c =
-    rw (is_some-held c.args.present c.args.value, ← c.bit_of.ensures) (joined-twice c.then-p.ensures c.then_if.ensures)
+returns c = rw (← c.is_some.ensures) (joined-twice c.then-p.ensures c.then_if.ensures)

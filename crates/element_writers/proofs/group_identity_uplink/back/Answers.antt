@@ -1,8 +1,0 @@
--- `element_writers::group_identity_uplink::back` meets its contract. Assumes nothing.
-use Rattle.bits.specs.DigitsLaws.{no_digits, ◌▹◌}
-use Rattle.element_writers.specs.GroupParts.{uplink_back}
-use Rattle.element_writers.proofs.group_identity_uplink.back.Goals as goal
-
-pub returns : goal.returns
-unfolding uplink_back
-returns c = no_digits ▹ c.then_if-e.ensures ▹ c.then_if.ensures

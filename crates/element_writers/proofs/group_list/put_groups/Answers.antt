@@ -1,0 +1,15 @@
+-- `element_writers::group_list::put_groups` meets its contract.
+use Rattle.bits.specs.PutsLaws.{nothing}
+use Rattle.elements.specs.Lists.{each}
+use Rattle.element_writers.specs.GroupParts.{group_parts, each-one}
+use Rattle.element_writers.proofs.group_list.put_groups.Goals as goal
+
+pub loop-g-init : goal.loop-g-init
+unfolding each
+loop-g-init g c = nothing
+
+pub loop-g-preserved : goal.loop-g-preserved
+loop-g-preserved g c =
+    let k = g.L.GroupList in
+    let l = c.loop-g in
+    each-one (group_parts k.front k.address) c.args.groups.now l.g-index c.loop-g-test.true c.g-item.is l.invariant c.put-place.ensures

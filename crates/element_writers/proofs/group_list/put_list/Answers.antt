@@ -1,0 +1,12 @@
+-- `element_writers::group_list::put_list` meets its contract.
+use Rattle.bits.specs.DigitsLaws.{◌▹◌}
+use Rattle.bits.specs.PutsLaws.{field, ◌⨾◌}
+use Rattle.element_writers.specs.WrittenElements.{list_front-fits}
+use Rattle.element_writers.proofs.group_list.put_list.Goals as goal
+
+pub returns : goal.returns
+returns g c =
+    let k = g.L.GroupList in
+    let a = c.args in
+    field (rw (c.IDENTIFIER.ensures, c.count.ensures) at (c.element_header-h.ensures ▹ c.then.ensures)) (list_front-fits k.IDENTIFIER a.size (k.kind.count a.list.now)) c.put-m1.ensures
+    ⨾ (rw c.groups.ensures.groups at c.put_groups.ensures)
