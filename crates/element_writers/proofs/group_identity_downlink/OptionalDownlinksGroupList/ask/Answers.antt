@@ -23,6 +23,6 @@ returns c =
         c.detachment_of-detachment.ensures,
         c.address-a.ensures,
       )
-      (group-asked attachment_bits attachment_fits 5 attachment-length downlink_forms (downlink_attachment g) (downlink_detachment g) (downlink_address_in g)),
+          (group-asked attachment_bits attachment_fits 5 attachment-length downlink_forms (downlink_attachment g) (downlink_detachment g) (downlink_address_in g)),
       omega arith,
     )

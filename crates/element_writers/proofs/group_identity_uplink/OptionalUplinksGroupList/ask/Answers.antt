@@ -25,6 +25,6 @@ returns c =
         c.detachment_of-detachment.ensures,
         c.address-a.ensures,
       )
-      (group-asked (digits 3) (in_width 3) 3 (length_digits 3) uplink_forms (uplink_class g) (uplink_detachment g) (uplink_address_in g)),
+          (group-asked (digits 3) (in_width 3) 3 (length_digits 3) uplink_forms (uplink_class g) (uplink_detachment g) (uplink_address_in g)),
       omega arith,
     )
