@@ -44,7 +44,7 @@ pub fn ask_saving(o: OptionalEnergySavingInformation) -> SavingAsked
         let multiframe = e.multiframe_number.held();
         let mode = e.energy_saving_mode;
         return SavingAsked {
-            fits: (mode < 8) & (ask_type2(frame, 5) & ask_type2(multiframe, 6)),
+            fits: (mode < 8) & (ask_type2(e.frame_number, 5) & ask_type2(e.multiframe_number, 6)),
             alive: (mode != STAY_ALIVE) | (frame.is_none() & multiframe.is_none()),
             saving: (mode == STAY_ALIVE) | (frame.is_some() & multiframe.is_some()),
         };

@@ -7,7 +7,7 @@ ghost use Rattle.elements.specs.Groups.{address_width, address_fits, form_of, ty
 ghost use Rattle.element_writers.specs.LocationAsked.{location_of};
 ghost use Rattle.element_writers.specs.GroupsAsked.{address_size, asked_empty, asked_count, asked_both};
 
-use crate::typed_pdu_fields::{nested_size, width_if};
+use crate::typed_pdu_fields::{ask_type2, nested_size, width_if};
 use bits::bitbuffer::Digits;
 use elements::group_address::GroupAddress;
 
@@ -120,23 +120,10 @@ pub(crate) fn location_of(own: bool, listed: bool, a: GroupsAsked) -> LocationAs
     }
 }
 
-// A part of an address, behind other bits: it has 24 bits.
-pub(crate) fn then_part(d: Digits, part: Option<u32>) -> Digits
-    ensures { Joined d (option_bits (digits address_width) part) result }
-{
-    d.then(part.unwrap_or(0) as u64, width_if(part.is_some(), 24))
-}
-
-fn part_fits(part: Option<u32>) -> bool
-    ensures { result ≡ option_all (in_width address_width) part }
-{
-    part.is_none_or(|v| v < 0x1000000)
-}
-
 pub(crate) fn address_fits(a: GroupAddress) -> bool
     ensures { result ≡ address_fits a }
 {
-    part_fits(a.gssi) & (part_fits(a.address_extension) & part_fits(a.vgssi))
+    ask_type2(a.gssi, 24) & (ask_type2(a.address_extension, 24) & ask_type2(a.vgssi, 24))
 }
 
 pub(crate) fn address_size(a: GroupAddress) -> usize

@@ -10,7 +10,7 @@ ghost use Rattle.elements.specs.Groups.{downlink_attachment, downlink_detachment
 ghost use Rattle.elements.specs.Locations.{group_identity_downlink_identifier};
 ghost use Rattle.elements.specs.Lists.{downlinks};
 
-use crate::group_address::{GroupsAsked, address_fits, address_size, downlink_type, then_part};
+use crate::group_address::{GroupsAsked, address_fits, address_size, downlink_type};
 use crate::group_identity_attachment::{attachment_fits, kind_of, then_attachment};
 use crate::group_list::{GroupList, ask_list, put_list};
 use crate::typed_pdu_fields::{ask_type2, then_if, width_if};
@@ -77,7 +77,7 @@ impl GroupList for OptionalDownlinks {
         let u = then_attachment(k, attachment);
         let d = then_if(u, detachment_of(g), 2);
         let t = d.then(downlink_type(a), 2);
-        then_part(t, a.gssi)
+        then_if(t, a.gssi, 24)
     }
 
     fn ask(g: GroupIdentityDownlink) -> GroupsAsked {

@@ -6,7 +6,7 @@ ghost use Rattle.elements.specs.Groups.{uplink_class, uplink_detachment, uplink_
 ghost use Rattle.elements.specs.Locations.{group_identity_uplink_identifier};
 ghost use Rattle.elements.specs.Lists.{uplinks};
 
-use crate::group_address::{GroupsAsked, address_fits, address_size, then_part, uplink_type};
+use crate::group_address::{GroupsAsked, address_fits, address_size, uplink_type};
 use crate::group_identity_attachment::kind_of;
 use crate::group_list::{GroupList, ask_list};
 use crate::typed_pdu_fields::{ask_type2, then_if, width_if};
@@ -72,7 +72,7 @@ impl GroupList for OptionalUplinks {
         let u = then_if(k, class, 3);
         let d = then_if(u, detachment_of(g), 2);
         let t = d.then(uplink_type(a), 2);
-        then_part(t, a.gssi)
+        then_if(t, a.gssi, 24)
     }
 
     fn ask(g: GroupIdentityUplink) -> GroupsAsked {

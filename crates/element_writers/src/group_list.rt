@@ -10,8 +10,8 @@ ghost use Rattle.element_writers.specs.GroupsAsked.{asked_of, asked_each, asked_
 ghost use Rattle.element_writers.specs.GroupParts.{group_back, group_parts};
 ghost use Rattle.element_writers.specs.WrittenElements.{list_parts, nested_parts};
 
-use crate::group_address::{GroupsAsked, count_asked, no_groups, then_part};
-use crate::typed_pdu_fields::element_header;
+use crate::group_address::{GroupsAsked, count_asked, no_groups};
+use crate::typed_pdu_fields::{element_header, then_if};
 use bits::bitbuffer::{Digits, NO_DIGITS, Place};
 use elements::group_address::GroupAddress;
 
@@ -59,7 +59,7 @@ pub(crate) trait GroupList {
 fn back(a: GroupAddress) -> Digits
     ensures { Holds result (group_back a) }
 {
-    then_part(then_part(NO_DIGITS, a.address_extension), a.vgssi)
+    then_if(then_if(NO_DIGITS, a.address_extension, 24), a.vgssi, 24)
 }
 
 // A group, in two fields.

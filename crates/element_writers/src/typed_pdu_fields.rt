@@ -12,8 +12,8 @@ use bits::bitbuffer::{Digits, NO_DIGITS, Place, within};
 use bits::pdu_parse_error::PduParseErr;
 use elements::typed_pdu_fields::{OptionalType3, OptionalType4, OptionalU8, OptionalU64};
 
-// A number that may be absent, as a record for C holds it.
-pub trait Held {
+// A number that may be absent, as an option or as a record for C holds it.
+pub trait Held: Copy {
     ghost held: { Self → Option ℕ };
 
     fn held(self) -> Option<u64>
@@ -36,6 +36,22 @@ impl Held for OptionalU64 {
     }
 }
 
+impl Held for Option<u32> {
+    ghost held = { λ o. o };
+
+    fn held(self) -> Option<u64> {
+        self.map(|v| v as u64)
+    }
+}
+
+impl Held for Option<u64> {
+    ghost held = { λ o. o };
+
+    fn held(self) -> Option<u64> {
+        self
+    }
+}
+
 // The width of what may be absent.
 pub fn width_if(present: bool, width: usize) -> usize
     ensures { (result ≡ cond present width 0) × (result ≤ width) }
@@ -44,25 +60,26 @@ pub fn width_if(present: bool, width: usize) -> usize
 }
 
 // A number that may be absent, behind others.
-pub fn then_if(d: Digits, o: Option<u64>, width: usize) -> Digits
-    ensures { Joined d (option_bits (digits width) o) result }
+pub fn then_if<H: Held>(d: Digits, o: H, width: usize) -> Digits
+    ensures { Joined d (option_bits (digits width) (H.held o)) result }
 {
-    d.then(o.unwrap_or(0), width_if(o.is_some(), width))
+    let v = o.held();
+    d.then(v.unwrap_or(0), width_if(v.is_some(), width))
 }
 
 // A type 2 element, behind other bits: the P-bit, and the value if it is present.
-pub fn then_type2(d: Digits, o: Option<u64>, width: usize) -> Digits
-    ensures { Joined d (type2_bits (digits width) o) result }
+pub fn then_type2<H: Held>(d: Digits, o: H, width: usize) -> Digits
+    ensures { Joined d (type2_bits (digits width) (H.held o)) result }
 {
-    let p = d.then(o.is_some() as u64, 1);
-    then_if(p, o, width)
+    let v = o.held();
+    then_if(d.then(v.is_some() as u64, 1), v, width)
 }
 
 // Question 8 of a number that may be absent: if it is present, it is in its width.
-pub fn ask_type2(o: Option<u64>, width: usize) -> bool
-    ensures { result ≡ option_all (in_width width) o }
+pub fn ask_type2<H: Held>(o: H, width: usize) -> bool
+    ensures { result ≡ option_all (in_width width) (H.held o) }
 {
-    o.is_none_or(|v| within(v, width))
+    o.held().is_none_or(|v| within(v, width))
 }
 
 // What stands before the content of a type 3 or type 4 element: M-bit 1, identifier, length.

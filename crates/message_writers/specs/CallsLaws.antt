@@ -76,10 +76,9 @@ module _ (m : ℕ) (os : List ℕ) (first end : ℕ) (r : Record) where
       go None q = rw (write-there bits os window (passed asked (length bits) (left (length os) window) q).enough) (call_taken (number g ∙ q))
       go (Some k) q = call_refused k (number g ∙ q)
 
-  -- A GOOD CALL, for the message x
-  pub good_write : (x : Message) → message_of m ≡ x → good_call m 0 (length os) first end ≡ true
-      → {v : Written} → v ≡ write_message (message_asked x r) (message_bits x r) os window → Call v
-  good_write x e g {v} w = let here : v ≡ write_message asked bits os window = rw e w in rw here (call_made g)
+  -- A GOOD CALL
+  pub good_write : good_call m 0 (length os) first end ≡ true → {v : Written} → v ≡ write_message asked bits os window → Call v
+  good_write g w = rw w (call_made g)
 
   pub bad_write : good_call m 0 (length os) first end ≡ false → (writing_of (Some bad_call) 0 ≡ writing m os first end r) × (os ≡ octets_written m os first end r)
   unfolding writing octets_written writing_refusal good_call

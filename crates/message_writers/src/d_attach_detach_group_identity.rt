@@ -9,6 +9,7 @@ ghost use Rattle.messages.specs.AttachDetach.{attach_detach_bits, attach_detach_
 ghost use Rattle.message_writers.specs.Writes.{write_message, Answered};
 ghost use Rattle.message_writers.specs.AttachDetachParts.{attach_detach_head_in, attach_detach_front, attach_detach_generics, attach_detach_elements, GenericsFit};
 
+use crate::PduWriter;
 use crate::parts::flag;
 use crate::questions::Answers;
 use bits::bitbuffer::{Cursor, Digits, NO_DIGITS, Place, within};
@@ -106,23 +107,22 @@ fn put_elements(
     m2.put(octets, NO_DIGITS.then(0, 1))
 }
 
-// The message, if it passes the questions; a refusal changes nothing.
-pub fn to_bitbuf(d: DAttachDetachGroupIdentity, c: Cursor, octets: &mut [u8]) -> Place
-    ensures { written octets.new (as_place result) ≡ write_message (attach_detach_asked d) (attach_detach_bits d) octets.old c }
-{
-    let list = d.group_identity_downlink;
-    let a = ask_downlinks(list);
-    let answers = ask(d, a);
-    let place = answers.start(c, octets.len());
-    let None = place.halt else {
-        return place;
-    };
-    let h = head_of(d);
-    let m = place.put(octets, front(h));
-    if h.obit == 1 {
-        let p = d.proprietary;
-        let g = d.group_report_response;
-        return put_elements(m, octets, p, g, list, a.size);
+impl PduWriter for DAttachDetachGroupIdentity {
+    fn to_bitbuf(self, c: Cursor, octets: &mut [u8]) -> Place {
+        let list = self.group_identity_downlink;
+        let a = ask_downlinks(list);
+        let answers = ask(self, a);
+        let place = answers.start(c, octets.len());
+        let None = place.halt else {
+            return place;
+        };
+        let h = head_of(self);
+        let m = place.put(octets, front(h));
+        if h.obit == 1 {
+            let p = self.proprietary;
+            let g = self.group_report_response;
+            return put_elements(m, octets, p, g, list, a.size);
+        }
+        m
     }
-    m
 }

@@ -9,6 +9,7 @@ ghost use Rattle.messages.specs.declared.d_location_update_accept.DLocationUpdat
 ghost use Rattle.message_writers.specs.Writes.{write_message, Answered};
 ghost use Rattle.message_writers.specs.AcceptParts.{accept_head_in, accept_generics_in, accept_front, accept_second, accept_options_tests, accept_options_size, accept_behind, accept_rest_in, AcceptGenerics, AcceptIs};
 
+use crate::PduWriter;
 use crate::parts::{FourGenerics, addresses, ask_four, flag, write_four};
 use crate::questions::Answers;
 use bits::bitbuffer::{Cursor, Digits, NO_DIGITS, Place, within};
@@ -107,14 +108,9 @@ fn second_options(o: AcceptOptions) -> Digits
     let subscriber_class = o.subscriber_class;
     let saving = o.energy_saving_information;
     let scch = o.scch_information_and_distribution_on_18th_frame;
-    let k = then_type2(
-        NO_DIGITS,
-        subscriber_class.present,
-        subscriber_class.value,
-        16,
-    );
+    let k = then_type2(NO_DIGITS, subscriber_class, 16);
     let s = then_saving(k, saving);
-    then_type2(s, scch.present, scch.value, 6)
+    then_type2(s, scch, 6)
 }
 
 // Question 8 of the type 2 elements; `saving` answers that of the energy saving information.
@@ -125,10 +121,9 @@ fn options_fit(o: AcceptOptions, saving: bool) -> bool
     let extension = o.address_extension;
     let subscriber_class = o.subscriber_class;
     let scch = o.scch_information_and_distribution_on_18th_frame;
-    ask_type2(ssi.present, ssi.value, 24)
-        & (ask_type2(extension.present, extension.value, 24)
-            & (ask_type2(subscriber_class.present, subscriber_class.value, 16)
-                & (saving & ask_type2(scch.present, scch.value, 6))))
+    ask_type2(ssi, 24)
+        & (ask_type2(extension, 24)
+            & (ask_type2(subscriber_class, 16) & (saving & ask_type2(scch, 6))))
 }
 
 // The bits of the type 2 elements.
@@ -223,25 +218,24 @@ fn put_behind(
     write_four(m4, octets, GENERICS, g)
 }
 
-// The message, if it passes the questions; a refusal changes nothing.
-pub fn to_bitbuf(d: DLocationUpdateAccept, c: Cursor, octets: &mut [u8]) -> Place
-    ensures { written octets.new (as_place result) ≡ write_message (accept_asked d) (accept_bits d) octets.old c }
-{
-    let h = head_of(d);
-    let rest = rest_of(d);
-    let g = generics_of(d);
-    let location = d.group_identity_location_accept;
-    let asked = ask_location_accept(location);
-    let answers = ask(h, rest, location.present, asked, g);
-    let place = answers.start(c, octets.len());
-    let None = place.halt else {
-        return place;
-    };
-    let m = place.put(octets, front(h));
-    if h.obit == 1 {
-        let options = h.options;
-        let security = rest.security_downlink;
-        return put_behind(m, octets, options, security, location, asked, g);
+impl PduWriter for DLocationUpdateAccept {
+    fn to_bitbuf(self, c: Cursor, octets: &mut [u8]) -> Place {
+        let h = head_of(self);
+        let rest = rest_of(self);
+        let g = generics_of(self);
+        let location = self.group_identity_location_accept;
+        let asked = ask_location_accept(location);
+        let answers = ask(h, rest, location.present, asked, g);
+        let place = answers.start(c, octets.len());
+        let None = place.halt else {
+            return place;
+        };
+        let m = place.put(octets, front(h));
+        if h.obit == 1 {
+            let options = h.options;
+            let security = rest.security_downlink;
+            return put_behind(m, octets, options, security, location, asked, g);
+        }
+        m
     }
-    m
 }

@@ -10,16 +10,21 @@ pub mod u_location_update_demand;
 ghost use Rattle.std.specs.Prelude.{◌≡◌};
 ghost use Rattle.bits.specs.Placed.{as_place};
 ghost use Rattle.bits.specs.PduParseError.{bad_call};
-ghost use Rattle.messages.specs.Head.{u_location_update_demand_type, d_location_update_accept_type, d_attach_detach_group_identity_type};
-ghost use Rattle.messages.specs.Calls.{of_demand, of_accept, of_attach_detach, writing, writing_of, octets_written};
+ghost use Rattle.messages.specs.Calls.{message_of, message_asked, message_bits, writing, writing_of, octets_written};
+ghost use Rattle.bits.specs.Written.{written};
+ghost use Rattle.message_writers.specs.Writes.{write_message};
 ghost use Rattle.message_writers.specs.CallsLaws.{Behind, writing_by};
 
 use bits::bitbuffer::{Cursor, Place};
 use bits::pdu_parse_error::PduParseErr;
-use messages::d_attach_detach_group_identity::DAttachDetachGroupIdentity;
-use messages::d_location_update_accept::DLocationUpdateAccept;
-use messages::u_location_update_demand::ULocationUpdateDemand;
-use messages::{ACCEPT, ATTACH_DETACH, DEMAND, Record, STRICT, Writing, is_good_call};
+use messages::{ACCEPT, ATTACH_DETACH, DEMAND, Pdu, Record, STRICT, Writing, is_good_call};
+
+// A message that can be written.
+pub trait PduWriter: Pdu {
+    // The message, if it passes the questions; a refusal changes nothing.
+    fn to_bitbuf(self, c: Cursor, octets: &mut [u8]) -> Place
+        ensures { written octets.new (as_place result) ≡ write_message (message_asked (message_of Self.TYPE) (Self.of self)) (message_bits (message_of Self.TYPE) (Self.of self)) octets.old c };
+}
 
 // The answer of what was written from `first` on.
 fn answered(first: usize, m: Place) -> Writing
@@ -48,65 +53,17 @@ fn refused() -> Writing
     }
 }
 
-// A writing call of a demand's own record.
-pub fn write_demand(
-    octets: &mut [u8],
-    first: usize,
-    end: usize,
-    d: ULocationUpdateDemand,
-) -> Writing
-    ensures answer { result ≡ writing u_location_update_demand_type octets.old first end (of_demand d) }
-    ensures octets { octets.new ≡ octets_written u_location_update_demand_type octets.old first end (of_demand d) }
+// A writing call of a message's own record.
+pub fn write_as<M: PduWriter>(octets: &mut [u8], first: usize, end: usize, d: M) -> Writing
+    ensures answer { result ≡ writing M.TYPE octets.old first end (M.of d) }
+    ensures octets { octets.new ≡ octets_written M.TYPE octets.old first end (M.of d) }
 {
-    if is_good_call(octets.len(), first, end, DEMAND, STRICT) {
+    if is_good_call(octets.len(), first, end, M::TYPE, STRICT) {
         let c = Cursor {
             at: first,
             end: end,
         };
-        return answered(first, u_location_update_demand::to_bitbuf(d, c, octets));
-    }
-    refused()
-}
-
-// A writing call of an accept's own record.
-pub fn write_accept(
-    octets: &mut [u8],
-    first: usize,
-    end: usize,
-    d: DLocationUpdateAccept,
-) -> Writing
-    ensures answer { result ≡ writing d_location_update_accept_type octets.old first end (of_accept d) }
-    ensures octets { octets.new ≡ octets_written d_location_update_accept_type octets.old first end (of_accept d) }
-{
-    if is_good_call(octets.len(), first, end, ACCEPT, STRICT) {
-        let c = Cursor {
-            at: first,
-            end: end,
-        };
-        return answered(first, d_location_update_accept::to_bitbuf(d, c, octets));
-    }
-    refused()
-}
-
-// A writing call of an attach/detach's own record.
-pub fn write_attach_detach(
-    octets: &mut [u8],
-    first: usize,
-    end: usize,
-    d: DAttachDetachGroupIdentity,
-) -> Writing
-    ensures answer { result ≡ writing d_attach_detach_group_identity_type octets.old first end (of_attach_detach d) }
-    ensures octets { octets.new ≡ octets_written d_attach_detach_group_identity_type octets.old first end (of_attach_detach d) }
-{
-    if is_good_call(octets.len(), first, end, ATTACH_DETACH, STRICT) {
-        let c = Cursor {
-            at: first,
-            end: end,
-        };
-        return answered(
-            first,
-            d_attach_detach_group_identity::to_bitbuf(d, c, octets),
-        );
+        return answered(first, d.to_bitbuf(c, octets));
     }
     refused()
 }
@@ -118,16 +75,13 @@ pub fn write(octets: &mut [u8], first: usize, end: usize, message: u64, held: Re
     ensures octets { octets.new ≡ octets_written message octets.old first end held }
 {
     if message == DEMAND {
-        let d = held.demand;
-        return write_demand(octets, first, end, d);
+        return write_as(octets, first, end, held.demand);
     }
     if message == ACCEPT {
-        let d = held.accept;
-        return write_accept(octets, first, end, d);
+        return write_as(octets, first, end, held.accept);
     }
     if message == ATTACH_DETACH {
-        let d = held.attach_detach;
-        return write_attach_detach(octets, first, end, d);
+        return write_as(octets, first, end, held.attach_detach);
     }
     refused()
 }

@@ -21,8 +21,8 @@ pub fn flag(set: bool) -> u8
 pub(crate) fn addresses(ssi: OptionalU64, extension: OptionalU64) -> Digits
     ensures { Holds result (addresses_bits ssi extension) }
 {
-    let s = then_type2(NO_DIGITS, ssi.present, ssi.value, 24);
-    then_type2(s, extension.present, extension.value, 24)
+    let s = then_type2(NO_DIGITS, ssi, 24);
+    then_type2(s, extension, 24)
 }
 
 // Four generic elements that follow each other in a table.

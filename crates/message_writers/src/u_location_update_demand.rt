@@ -10,6 +10,7 @@ ghost use Rattle.message_writers.specs.Writes.{write_message, Answered};
 ghost use Rattle.message_writers.specs.Parts.{four_asked};
 ghost use Rattle.message_writers.specs.DemandParts.{demand_head_in, demand_generics_in, demand_front, demand_first, demand_head_tests, demand_options_tests, demand_options_size, demand_options_parts, demand_generics_parts, demand_behind, DemandIs};
 
+use crate::PduWriter;
 use crate::parts::{FourGenerics, addresses, ask_four, flag, write_four};
 use crate::questions::Answers;
 use bits::bitbuffer::{Cursor, Digits, NO_DIGITS, Place, within};
@@ -95,7 +96,7 @@ fn front(h: DemandHead) -> Digits
     let u = t.then(h.location_update_type as u64, 3);
     let a = u.then(h.request_to_append_la as u64, 1);
     let c = a.then(h.cipher_control as u64, 1);
-    let p = then_if(c, ciphering.present, ciphering.value, 10);
+    let p = then_if(c, ciphering, 10);
     p.then(h.obit as u64, 1)
 }
 
@@ -107,9 +108,9 @@ fn first_options(o: DemandOptions) -> Digits
     let mode = o.energy_saving_mode;
     let la = o.la_information;
     let k = type2_class(class_of_ms);
-    let m = then_type2(k, mode.present, mode.value as u64, 3);
-    let l = then_type2(m, la.present, la.value, 14);
-    then_if(l, la.present, 0, 1)
+    let m = then_type2(k, mode, 3);
+    let l = then_type2(m, la, 14);
+    then_if(l, la.present.then_some(0u64), 1)
 }
 
 // Question 8.
@@ -119,8 +120,7 @@ fn head_fits(h: DemandHead) -> bool
     let ciphering = h.ciphering_parameters;
     within(h.location_update_type as u64, 3)
         & (within(h.request_to_append_la as u64, 1)
-            & (within(h.cipher_control as u64, 1)
-                & ask_type2(ciphering.present, ciphering.value, 10)))
+            & (within(h.cipher_control as u64, 1) & ask_type2(ciphering, 10)))
 }
 
 fn options_fit(o: DemandOptions) -> bool
@@ -132,10 +132,8 @@ fn options_fit(o: DemandOptions) -> bool
     let ssi = o.ssi;
     let extension = o.address_extension;
     class_fits(class_of_ms)
-        & (ask_type2(mode.present, mode.value as u64, 3)
-            & (ask_type2(la.present, la.value, 14)
-                & (ask_type2(ssi.present, ssi.value, 24)
-                    & ask_type2(extension.present, extension.value, 24))))
+        & (ask_type2(mode, 3)
+            & (ask_type2(la, 14) & (ask_type2(ssi, 24) & ask_type2(extension, 24))))
 }
 
 // The bits of the type 2 elements.
@@ -253,13 +251,12 @@ fn write_alone(h: DemandHead, c: Cursor, octets: &mut [u8]) -> Place
     place.put(octets, front(h))
 }
 
-// The message, if it passes the questions; a refusal changes nothing.
-pub fn to_bitbuf(d: ULocationUpdateDemand, c: Cursor, octets: &mut [u8]) -> Place
-    ensures { written octets.new (as_place result) ≡ write_message (demand_asked d) (demand_bits d) octets.old c }
-{
-    let h = head_of(d);
-    if h.obit == 1 {
-        return write_more(d, h, c, octets);
+impl PduWriter for ULocationUpdateDemand {
+    fn to_bitbuf(self, c: Cursor, octets: &mut [u8]) -> Place {
+        let h = head_of(self);
+        if h.obit == 1 {
+            return write_more(self, h, c, octets);
+        }
+        write_alone(h, c, octets)
     }
-    write_alone(h, c, octets)
 }

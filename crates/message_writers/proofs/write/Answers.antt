@@ -8,17 +8,17 @@ use Rattle.message_writers.proofs.write.Goals as goal
 pub returns-then-message-eq-DEMAND : goal.returns-then-message-eq-DEMAND
 unfolding writing octets_written writing_refusal
 returns-then-message-eq-DEMAND c =
-    rw c.if-message-eq-DEMAND.true c.write_demand.ensures
+    rw c.if-message-eq-DEMAND.true c.write_as.ensures
 
 pub returns-then-message-eq-ACCEPT : goal.returns-then-message-eq-ACCEPT
 unfolding writing octets_written writing_refusal
 returns-then-message-eq-ACCEPT c =
-    rw c.if-message-eq-ACCEPT.true c.write_accept.ensures
+    rw c.if-message-eq-ACCEPT.true c.write_as-then-message-eq-ACCEPT.ensures
 
 pub returns-then-message-eq-ATTACH_DETACH : goal.returns-then-message-eq-ATTACH_DETACH
 unfolding writing octets_written writing_refusal
 returns-then-message-eq-ATTACH_DETACH c =
-    rw c.if-message-eq-ATTACH_DETACH.true c.write_attach_detach.ensures
+    rw c.if-message-eq-ATTACH_DETACH.true c.write_as-then-message-eq-ATTACH_DETACH.ensures
 
 pub returns : goal.returns
 returns c =

@@ -4,4 +4,4 @@ use Rattle.element_writers.proofs.group_address.address_fits.Goals as goal
 
 pub returns : goal.returns
 unfolding address_fits
-returns c = rw (c.part_fits.ensures, c.part_fits-2.ensures, c.part_fits-3.ensures)
+returns c = rw (c.ask_type2.ensures, c.ask_type2-2.ensures, c.ask_type2-3.ensures)

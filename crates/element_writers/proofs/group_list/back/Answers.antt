@@ -3,4 +3,4 @@ use Rattle.bits.specs.DigitsLaws.{no_digits, ◌▹◌}
 use Rattle.element_writers.proofs.group_list.back.Goals as goal
 
 pub returns : goal.returns
-returns c = no_digits ▹ c.then_part.ensures ▹ c.then_part-2.ensures
+returns c = no_digits ▹ c.then_if.ensures ▹ c.then_if-2.ensures

@@ -5,4 +5,4 @@ use Rattle.message_writers.proofs.u_location_update_demand.first_options.Goals a
 
 pub returns : goal.returns
 returns c =
-    c.type2_class-k.ensures ▹ c.then_type2-m.ensures ▹ (rw (la_bits_lem c.args.o.la_information) at (joined-twice c.then_type2-l.ensures c.then_if.ensures))
+    c.type2_class-k.ensures ▹ c.then_type2-m.ensures ▹ (rw (la_bits_lem c.args.o.la_information) at (joined-twice c.then_type2-l.ensures (rw c.then_some.ensures at c.then_if.ensures)))

@@ -7,4 +7,4 @@ pub returns : goal.returns
 unfolding downlink_front
 returns c =
     rw (c.kind_of.ensures, c.is_some.ensures, c.downlink_type.ensures, c.attachment_of-attachment.ensures, c.detachment_of.ensures, c.address-a.ensures)
-    at (no_digits ▹ c.then-k.ensures ▹ c.then_attachment-u.ensures ▹ c.then_if-d.ensures ▹ c.then-t.ensures ▹ c.then_part.ensures)
+    at (no_digits ▹ c.then-k.ensures ▹ c.then_attachment-u.ensures ▹ c.then_if-d.ensures ▹ c.then-t.ensures ▹ c.then_if.ensures)

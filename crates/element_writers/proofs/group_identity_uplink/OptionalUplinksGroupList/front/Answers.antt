@@ -7,4 +7,4 @@ pub returns : goal.returns
 unfolding uplink_front
 returns c =
     rw (c.kind_of.ensures, c.is_some.ensures, c.uplink_type.ensures, c.class_of-class.ensures, c.detachment_of.ensures, c.address-a.ensures)
-    at (no_digits ▹ c.then-k.ensures ▹ c.then_if-u.ensures ▹ c.then_if-d.ensures ▹ c.then-t.ensures ▹ c.then_part.ensures)
+    at (no_digits ▹ c.then-k.ensures ▹ c.then_if-u.ensures ▹ c.then_if-d.ensures ▹ c.then-t.ensures ▹ c.then_if.ensures)

@@ -1,12 +1,12 @@
--- `message_writers::d_location_update_accept::to_bitbuf` meets its contract. Assumes nothing.
+-- `message_writers::d_location_update_accept::DLocationUpdateAcceptPduWriter::to_bitbuf` meets its contract. Assumes nothing.
 use mathlib.Core.Path.{refl, sym, ap, ◌∙◌}
 use Rattle.bits.specs.PutsLaws.{field, ◌⨾◌}
 use Rattle.messages.specs.declared.d_location_update_accept.AcceptHead.{AcceptHead}
 use Rattle.bits.specs.PlacedLaws.{Fact, fact}
 use Rattle.message_writers.specs.WritesLaws.{asking, all-passed, message-written, message-refused, bit-one, bit-other}
 use Rattle.message_writers.specs.AcceptParts.{accept_head_in, front-most, accept-generics, accept-in_parts}
-use Rattle.message_writers.proofs.d_location_update_accept.to_bitbuf.Goals as goal
-use Rattle.message_writers.proofs.d_location_update_accept.to_bitbuf.Goals.{After-start-place}
+use Rattle.message_writers.proofs.d_location_update_accept.DLocationUpdateAcceptPduWriter.to_bitbuf.Goals as goal
+use Rattle.message_writers.proofs.d_location_update_accept.DLocationUpdateAcceptPduWriter.to_bitbuf.Goals.{After-start-place}
 
 -- where the questions let it begin
 abbrev asked : After-start-place → Fact
@@ -16,7 +16,7 @@ asked v =
 
 pub put_behind-requires : goal.put_behind-requires
 put_behind-requires c =
-    rw (c.rest_of-rest.ensures, c.generics_of-g.ensures) (accept-generics c.args.d (all-passed (asked ((goal.at.put_behind-requires c).After-start-place)).holds c.in-None.is).fits)
+    rw (c.rest_of-rest.ensures, c.generics_of-g.ensures) (accept-generics c.args.«self» (all-passed (asked ((goal.at.put_behind-requires c).After-start-place)).holds c.in-None.is).fits)
 
 pub returns-then-h-eq1 : goal.returns-then-h-eq1
 returns-then-h-eq1 c =

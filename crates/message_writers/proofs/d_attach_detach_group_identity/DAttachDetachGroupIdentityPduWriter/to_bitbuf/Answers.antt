@@ -1,4 +1,4 @@
--- `message_writers::d_attach_detach_group_identity::to_bitbuf` meets its contract. Assumes nothing.
+-- `message_writers::d_attach_detach_group_identity::DAttachDetachGroupIdentityPduWriter::to_bitbuf` meets its contract. Assumes nothing.
 use mathlib.Core.Path.{sym, ap, ◌∙◌}
 use Rattle.bits.specs.PutsLaws.{field, ◌⨾◌}
 use Rattle.messages.specs.declared.d_attach_detach_group_identity.AttachDetachHead.{AttachDetachHead}
@@ -6,8 +6,8 @@ use Rattle.messages.specs.AttachDetach.{attach_detach_asked}
 use Rattle.bits.specs.PlacedLaws.{Fact, fact}
 use Rattle.message_writers.specs.WritesLaws.{asking, all-passed, message-written, message-refused, bit-one, bit-other}
 use Rattle.message_writers.specs.AttachDetachParts.{attach_detach_head_in, front-most, attach_detach_generics_lem, attach_detach-in_parts}
-use Rattle.message_writers.proofs.d_attach_detach_group_identity.to_bitbuf.Goals as goal
-use Rattle.message_writers.proofs.d_attach_detach_group_identity.to_bitbuf.Goals.{After-start-place}
+use Rattle.message_writers.proofs.d_attach_detach_group_identity.DAttachDetachGroupIdentityPduWriter.to_bitbuf.Goals as goal
+use Rattle.message_writers.proofs.d_attach_detach_group_identity.DAttachDetachGroupIdentityPduWriter.to_bitbuf.Goals.{After-start-place}
 
 -- where the questions let it begin
 abbrev asked : After-start-place → Fact
@@ -17,7 +17,7 @@ asked v =
 
 pub put_elements-requires : goal.put_elements-requires
 put_elements-requires c =
-    (attach_detach_generics_lem c.args.d (all-passed (asked ((goal.at.put_elements-requires c).After-start-place)).holds c.in-None.is).fits)
+    (attach_detach_generics_lem c.args.«self» (all-passed (asked ((goal.at.put_elements-requires c).After-start-place)).holds c.in-None.is).fits)
 
 pub returns-then-h-eq1 : goal.returns-then-h-eq1
 unfolding attach_detach_asked

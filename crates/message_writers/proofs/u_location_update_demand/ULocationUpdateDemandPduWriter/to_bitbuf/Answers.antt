@@ -1,8 +1,8 @@
--- `message_writers::u_location_update_demand::to_bitbuf` meets its contract. Assumes nothing.
+-- `message_writers::u_location_update_demand::ULocationUpdateDemandPduWriter::to_bitbuf` meets its contract. Assumes nothing.
 use mathlib.Core.Path.{sym, ap, ◌∙◌}
 use Rattle.messages.specs.declared.u_location_update_demand.DemandHead.{DemandHead}
 use Rattle.message_writers.specs.WritesLaws.{bit-one, bit-other}
-use Rattle.message_writers.proofs.u_location_update_demand.to_bitbuf.Goals as goal
+use Rattle.message_writers.proofs.u_location_update_demand.ULocationUpdateDemandPduWriter.to_bitbuf.Goals as goal
 
 pub write_more-requires : goal.write_more-requires
 write_more-requires c =
@@ -10,4 +10,4 @@ write_more-requires c =
 
 pub returns : goal.returns
 returns c =
-    c.write_alone.ensures c.args.d c.head_of-h.ensures (bit-other _ (λ e. c.if-h-eq1.false (ap (λ (x : DemandHead). x.obit) c.head_of-h.ensures ∙ e)))
+    c.write_alone.ensures c.args.«self» c.head_of-h.ensures (bit-other _ (λ e. c.if-h-eq1.false (ap (λ (x : DemandHead). x.obit) c.head_of-h.ensures ∙ e)))
