@@ -5,7 +5,7 @@ ghost use Rattle.bits.specs.Written.{Joined};
 ghost use Rattle.elements.specs.Numbers.{option_bits, option_all, in_width};
 ghost use Rattle.elements.specs.Groups.{address_width, address_fits, form_of, type_of, uplink_forms, downlink_forms};
 ghost use Rattle.element_writers.specs.LocationAsked.{location_of};
-ghost use Rattle.element_writers.specs.GroupsAsked.{address_size, asked_empty, asked_count, asked_both};
+ghost use Rattle.element_writers.specs.GroupsAsked.{address_size, asked_count, asked_both};
 
 use crate::typed_pdu_fields::{nested_size, width_if};
 use bits::bitbuffer::Digits;
@@ -71,17 +71,13 @@ pub(crate) fn count_asked(count: usize) -> GroupsAsked
     }
 }
 
-// The same of a list that is absent, or has no entries.
-pub(crate) fn no_groups(present: bool) -> GroupsAsked
-    ensures { (result ≡ asked_empty present) × (result.size ≤ 6) }
-{
-    GroupsAsked {
-        fits: true,
-        one: true,
-        listed: true,
-        size: width_if(present, 6),
-    }
-}
+// The same of no groups, and of a list that is absent.
+pub(crate) const NO_GROUPS: GroupsAsked = GroupsAsked {
+    fits: true,
+    one: true,
+    listed: true,
+    size: 0,
+};
 
 // What questions 8, 10, 11 and 15 find of a location demand or accept, and the lengths of its list's content and of its own.
 #[derive(Clone, Copy)]
