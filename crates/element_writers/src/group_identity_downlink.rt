@@ -13,7 +13,7 @@ ghost use Rattle.elements.specs.Groups.{attachment_bits, attachment_fits, downli
 ghost use Rattle.elements.specs.Locations.{group_identity_downlink_identifier};
 ghost use Rattle.elements.specs.Lists.{downlinks};
 
-use crate::group_address::{GroupsAsked, downlink_type};
+use crate::group_address::GroupsAsked;
 use crate::group_identity_attachment::{attachment_fits, then_attachment};
 use crate::group_list::{GroupList, ask_list, put_list};
 use bits::bitbuffer::{Digits, Place};
@@ -105,7 +105,13 @@ impl GroupList for OptionalDownlinks {
     }
 
     fn address_type(a: GroupAddress) -> u64 {
-        downlink_type(a)
+        match (a.gssi, a.address_extension, a.vgssi) {
+            (Some(_), None, None) => 0,
+            (Some(_), Some(_), None) => 1,
+            (None, None, Some(_)) => 2,
+            (Some(_), Some(_), Some(_)) => 3,
+            _ => 4,
+        }
     }
 }
 

@@ -1,8 +1,7 @@
 // Group identity uplink (EN 300 392-2, clause 16.10.27).
 ghost use Rattle.std.proofs.Common.{rules};
 ghost use Rattle.std.specs.Prelude.{◌≡◌, refl, ◌≤◌};
-ghost use Rattle.element_writers.specs.GroupsAsked.{asked_list};
-ghost use Rattle.element_writers.specs.GroupsAsked.{uplink-asked};
+ghost use Rattle.element_writers.specs.GroupsAsked.{asked_list, uplink-asked};
 ghost use Rattle.bits.specs.Bits.{digits};
 ghost use Rattle.bits.specs.BitsLaws.{length_digits};
 ghost use Rattle.elements.specs.Numbers.{option_bits, option_all, in_width};
@@ -11,7 +10,7 @@ ghost use Rattle.elements.specs.Groups.{class_of_usage_width, uplink_forms, upli
 ghost use Rattle.elements.specs.Locations.{group_identity_uplink_identifier};
 ghost use Rattle.elements.specs.Lists.{uplinks};
 
-use crate::group_address::{GroupsAsked, uplink_type};
+use crate::group_address::GroupsAsked;
 use crate::group_list::{GroupList, ask_list};
 use crate::typed_pdu_fields::{ask_type2, then_if};
 use bits::bitbuffer::Digits;
@@ -101,7 +100,12 @@ impl GroupList for OptionalUplinks {
     }
 
     fn address_type(a: GroupAddress) -> u64 {
-        uplink_type(a)
+        match (a.gssi, a.address_extension, a.vgssi) {
+            (Some(_), None, None) => 0,
+            (Some(_), Some(_), None) => 1,
+            (None, None, Some(_)) => 2,
+            _ => 3,
+        }
     }
 }
 
