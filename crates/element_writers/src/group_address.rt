@@ -105,6 +105,7 @@ fn part_fits(part: Option<u32>) -> bool
     part.is_none_or(|v| v < 0x1000000)
 }
 
+#[tactic(auto, unfolding(elements::specs::Groups::address_fits))]
 pub(crate) fn address_fits(a: GroupAddress) -> bool
     ensures { result ≡ address_fits a }
 {

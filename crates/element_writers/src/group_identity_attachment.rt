@@ -20,6 +20,7 @@ pub(crate) fn then_attachment(d: Digits, o: Option<GroupIdentityAttachment>) -> 
 }
 
 // Whether its numbers, if it is present, are in their widths.
+#[tactic(auto, unfolding(elements::specs::Groups::attachment_fits))]
 pub(crate) fn attachment_fits(o: Option<GroupIdentityAttachment>) -> bool
     ensures { result ≡ option_all attachment_fits o }
 {

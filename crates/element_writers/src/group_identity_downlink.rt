@@ -104,6 +104,7 @@ impl GroupList for OptionalDownlinks {
         attachment_fits(o)
     }
 
+    #[tactic(auto, unfolding(elements::specs::Groups::type_of))]
     fn address_type(a: GroupAddress) -> u64 {
         match (a.gssi, a.address_extension, a.vgssi) {
             (Some(_), None, None) => 0,

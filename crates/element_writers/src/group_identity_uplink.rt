@@ -99,6 +99,7 @@ impl GroupList for OptionalUplinks {
         ask_type2(o, 3)
     }
 
+    #[tactic(auto, unfolding(elements::specs::Groups::type_of))]
     fn address_type(a: GroupAddress) -> u64 {
         match (a.gssi, a.address_extension, a.vgssi) {
             (Some(_), None, None) => 0,
