@@ -1,5 +1,5 @@
 -- The bits of a group as the fields that they are written in: those up to the GSSI, and the rest.
-use Rattle.std.specs.Prelude.{ℕ, ◌+◌, ◌≤◌, ◌<◌, ◌≡◌, Bool, true, false, cond, length, take, get_or, is_some, unwrap_or}
+use Rattle.std.specs.Prelude.{ℕ, ◌+◌, ◌≤◌, ◌<◌, ◌≡◌, cond, length, take, get_or, is_some, unwrap_or}
 use Rattle.std.proofs.Common.{arith, ◌∙◌, length-append}
 use Rattle.std.proofs.Math.Path.{refl, ap₂}
 use Rattle.std.specs.Prelude.{Option, None, Some}
@@ -8,8 +8,8 @@ use Rattle.bits.specs.Bits.{Bits, digits}
 use Rattle.bits.specs.BitsLaws.{length_digits}
 use Rattle.bits.specs.Written.{Written, joined}
 use Rattle.bits.specs.PutsLaws.{Puts, ◌⨾◌, joined-append}
-use Rattle.elements.specs.Numbers.{held, option_bits, flag_width}
-use Rattle.elements.specs.Groups.{Form, form_of, type_of, address_type_width, address_width, address_bits, detachment_width, kind_of, group_bits, class_of_usage_width, lifetime_width, uplink_forms, uplink_class, uplink_detachment, uplink_address_in, uplink_bits, downlink_forms, attachment_bits, downlink_attachment, downlink_detachment, downlink_address_in, downlink_bits}
+use Rattle.elements.specs.Numbers.{option_bits, flag_width}
+use Rattle.elements.specs.Groups.{Form, form_of, type_of, address_type_width, address_width, address_bits, detachment_width, kind_of, group_bits, class_of_usage_width, uplink_forms, uplink_class, uplink_detachment, uplink_address_in, uplink_bits, downlink_forms, attachment_bits, downlink_attachment, downlink_detachment, downlink_address_in, downlink_bits}
 use Rattle.elements.specs.Lists.{each}
 use Rattle.elements.proofs.EachLaws.{each_more}
 use Rattle.elements.specs.declared.group_identity_attachment.GroupIdentityAttachment.{GroupIdentityAttachment}

@@ -1,7 +1,7 @@
 -- What questions 8, 10 and 11 find of a group and of a list, and how many bits there are; and the laws of asking one group after the other.
-use Prim.Native.Nat.{ℕ, zero, suc, ◌+◌, ◌<◌, min}
+use Prim.Native.Nat.{ℕ, zero, suc, ◌+◌, ◌<◌}
 use Rattle.std.proofs.Common.{arith, sym, length-append}
-use Rattle.std.specs.Prelude.{◌≡◌, Bool, cond, not, ◌&&◌, ◌||◌, length, take, get_or, leb, is_some}
+use Rattle.std.specs.Prelude.{◌≡◌, Bool, cond, ◌&&◌, ◌||◌, length, take, get_or, leb, is_some}
 use Rattle.std.proofs.Math.Path.{refl}
 use Rattle.std.proofs.Math.Bool.{true, false, and-true, and_assoc}
 use Rattle.std.specs.Prelude.{Option, None, Some}
@@ -10,16 +10,14 @@ use Rattle.std.proofs.Math.Dec.{ltb}
 use Rattle.std.proofs.lemmas.Bool.{lt-ltb, ltb-true, ltb-false, le-ltb}
 use Rattle.bits.specs.Bits.{Bits, digits}
 use Rattle.bits.specs.BitsLaws.{length_digits}
-use Rattle.elements.specs.Numbers.{held, option_bits, option_all, in_width, flag_width}
-use Rattle.elements.specs.Groups.{uplink_class, uplink_detachment, uplink_address_in, uplink_bits, uplink_fits, uplink_one, uplink_listed, downlink_attachment, downlink_detachment, downlink_address_in, downlink_bits, downlink_fits, downlink_one, downlink_listed, Form, group_fits, differ, same_form, address_width, address_type_width, address_bits, form_of, type_of, listed_form, uplink_forms, downlink_forms, kind_of, detachment_width, lifetime_width, class_of_usage_width, attachment_bits, attachment_fits, group_bits}
+use Rattle.elements.specs.Numbers.{option_bits, in_width, flag_width}
+use Rattle.elements.specs.Groups.{uplink_class, uplink_detachment, uplink_address_in, uplink_bits, uplink_fits, uplink_one, uplink_listed, downlink_attachment, downlink_detachment, downlink_address_in, downlink_bits, downlink_fits, downlink_one, downlink_listed, Form, group_fits, differ, same_form, address_width, address_type_width, address_bits, form_of, type_of, listed_form, uplink_forms, downlink_forms, kind_of, detachment_width, class_of_usage_width, attachment_bits, attachment_fits, group_bits}
 use Rattle.elements.specs.Generics.{entries_width}
 use Rattle.elements.proofs.EachLaws.{each_more}
 use Rattle.elements.specs.Lists.{Groups, uplinks, downlinks, each, all, list_bits, list_held, list_fits, list_one, list_listed}
-use Rattle.elements.specs.declared.group_identity_attachment.GroupIdentityAttachment.{GroupIdentityAttachment}
 use Rattle.elements.specs.declared.group_identity_uplink.GroupIdentityUplink.{GroupIdentityUplink}
 use Rattle.elements.specs.declared.group_identity_downlink.GroupIdentityDownlink.{GroupIdentityDownlink}
 use Rattle.elements.specs.declared.group_address.GroupAddress.{GroupAddress}
-use Rattle.element_writers.specs.GroupParts.{attachment-length}
 use Rattle.element_writers.specs.declared.group_address.GroupsAsked.{GroupsAsked}
 
 -- how many bits the parts of an address have

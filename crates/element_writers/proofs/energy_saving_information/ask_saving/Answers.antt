@@ -1,6 +1,5 @@
 -- `element_writers::energy_saving_information::ask_saving` meets its contract. Assumes nothing.
-use Rattle.std.proofs.Common.{sym, ap, ◌∙◌}
-use Rattle.std.proofs.Math.Bool.{not, not-not}
+use Rattle.std.proofs.Math.Bool.{not-not}
 use Rattle.elements.specs.EnergySaving.{saving_fits, alive_has_none, others_have_both}
 use Rattle.element_writers.proofs.energy_saving_information.ask_saving.Goals as goal
 

@@ -1,7 +1,5 @@
 -- `element_writers::energy_saving_information::then_saving` meets its contract. Assumes nothing.
 use Rattle.std.specs.Prelude.{◌≡◌}
-use mathlib.Core.List.{append-nil}
-use Rattle.bits.specs.Bits.{digits}
 use Rattle.bits.specs.DigitsLaws.{joined-twice}
 use Rattle.elements.specs.Numbers.{value_or, in_u8}
 use Rattle.elements.specs.EnergySaving.{saving_bits}

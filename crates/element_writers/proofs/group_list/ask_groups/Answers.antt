@@ -1,5 +1,5 @@
 -- `element_writers::group_list::ask_groups` meets its contract.
-use Rattle.std.proofs.Common.{rules, arith, ◌∙◌}
+use Rattle.std.proofs.Common.{arith, ◌∙◌}
 use Rattle.elements.specs.Lists.{all, each}
 use Rattle.element_writers.specs.GroupsAsked.{asked-more, none_asked}
 use Rattle.element_writers.proofs.group_list.ask_groups.Goals as goal
