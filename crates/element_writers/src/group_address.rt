@@ -87,8 +87,8 @@ pub(crate) fn location_of(own: bool, listed: bool, a: GroupsAsked) -> LocationAs
         one: a.one,
         listed: a.listed,
         short: (content < 0x800) & (list < 0x800),
-        list: list,
-        content: content,
+        list,
+        content,
     }
 }
 

@@ -69,9 +69,10 @@ pub fn ask_type2(o: Option<u64>, width: usize) -> bool
 pub(crate) fn element_header(identifier: u8, size: usize) -> Digits
     ensures { Holds result (header_bits identifier size) }
 {
-    let m = NO_DIGITS.then(1, 1);
-    let i = m.then(identifier as u64, 4);
-    i.then(size as u64, 11)
+    NO_DIGITS
+        .then(1, 1)
+        .then(identifier as u64, 4)
+        .then(size as u64, 11)
 }
 
 // Question 8 of a generic element that may be absent: at most 64 bits, data within them, at most 63 entries.
