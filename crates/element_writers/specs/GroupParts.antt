@@ -27,9 +27,9 @@ group_front bits forms t d a =
 abbrev pub group_back : GroupAddress → Bits
 group_back a = option_bits (digits address_width) a.address_extension ++ option_bits (digits address_width) a.vgssi
 
--- a group of a kind whose fronts and addresses are these
-abbrev pub group_parts : {G : Type 0} → (G → Bits) → (G → GroupAddress) → G → List Bits
-group_parts front address g = front g ∷ group_back (address g) ∷ []
+-- a group of a kind: what an attachment says in bits, the address types, and what is present in the group
+abbrev pub group_parts : {T G : Type 0} → (T → Bits) → List Form → (G → Option T) → (G → Option ℕ) → (G → GroupAddress) → G → List Bits
+group_parts bits forms attachment detachment address g = group_front bits forms (attachment g) (detachment g) (address g) ∷ group_back (address g) ∷ []
 
 -- an absent number has no digits
 pub part-digits : (w : ℕ) (o : Option ℕ) → digits (cond (is_some o) w 0) (unwrap_or o 0) ≡ option_bits (digits w) o
@@ -51,7 +51,11 @@ option-length : (w : ℕ) (o : Option ℕ) → length (option_bits (digits w) o)
 option-length w None = omega arith
 option-length w (Some v) = rw (length_digits w v) (omega arith)
 
-group_front-fits : {T : Type 0} (bits : T → Bits) (forms : List Form) (t : Option T) (d : Option ℕ) (a : GroupAddress)
+pub option_most : {T : Type 0} (bits : T → Bits) (w : ℕ) → ((t : T) → length (bits t) ≡ w) → (o : Option T) → length (option_bits bits o) ≤ w
+option_most bits w h None = omega arith
+option_most bits w h (Some t) = rw (h t) (omega arith)
+
+pub group_front-fits : {T : Type 0} (bits : T → Bits) (forms : List Form) (t : Option T) (d : Option ℕ) (a : GroupAddress)
     → length (option_bits bits t) ≤ 5 → length (group_front bits forms t d a) ≤ 64
 group_front-fits bits forms t d a h =
     let x : Bits = digits flag_width (kind_of (is_some t)) in
@@ -71,67 +75,30 @@ group_back-fits a =
     let lv = option-length address_width a.vgssi in
     rw (length-append (option_bits (digits address_width) a.address_extension) (option_bits (digits address_width) a.vgssi)) (omega arith)
 
--- ## uplinks
-
-unfoldable pub uplink_front : GroupIdentityUplink → Bits
-uplink_front g = group_front (digits class_of_usage_width) uplink_forms (uplink_class g) (uplink_detachment g) (uplink_address_in g)
-
-unfoldable pub uplink_back : GroupIdentityUplink → Bits
-uplink_back g = group_back (uplink_address_in g)
+-- they are the group's bits
+group_parts_lem : {T : Type 0} (bits : T → Bits) (forms : List Form) (t : Option T) (d : Option ℕ) (a : GroupAddress)
+    → joined (group_front bits forms t d a ∷ group_back a ∷ []) ≡ group_bits bits forms t d a
+unfolding joined
+group_parts_lem bits forms t d a = rw (append-nil (group_back a)) (group-parts bits forms t d a)
 
 abbrev pub uplink_parts : GroupIdentityUplink → List Bits
-uplink_parts = group_parts uplink_front uplink_address_in
+uplink_parts = group_parts (digits class_of_usage_width) uplink_forms uplink_class uplink_detachment uplink_address_in
 
 pub uplink_parts_lem : (g : GroupIdentityUplink) → joined (uplink_parts g) ≡ uplink_bits g
-unfolding joined uplink_front uplink_back uplink_bits
-uplink_parts_lem g =
-    rw (append-nil (group_back (uplink_address_in g)))
-    (group-parts (digits class_of_usage_width) uplink_forms (uplink_class g) (uplink_detachment g) (uplink_address_in g))
-
-pub uplink_front-fits : (g : GroupIdentityUplink) → length (uplink_front g) ≤ 64
-unfolding uplink_front
-uplink_front-fits g =
-    let l = option-length class_of_usage_width (uplink_class g) in
-    group_front-fits (digits class_of_usage_width) uplink_forms (uplink_class g) (uplink_detachment g) (uplink_address_in g) (omega arith)
-
-pub uplink_back-fits : (g : GroupIdentityUplink) → length (uplink_back g) ≤ 64
-unfolding uplink_back
-uplink_back-fits g = group_back-fits (uplink_address_in g)
-
--- ## downlinks
-
-unfoldable pub downlink_front : GroupIdentityDownlink → Bits
-downlink_front g = group_front attachment_bits downlink_forms (downlink_attachment g) (downlink_detachment g) (downlink_address_in g)
-
-unfoldable pub downlink_back : GroupIdentityDownlink → Bits
-downlink_back g = group_back (downlink_address_in g)
+unfolding uplink_bits
+uplink_parts_lem g = group_parts_lem (digits class_of_usage_width) uplink_forms (uplink_class g) (uplink_detachment g) (uplink_address_in g)
 
 abbrev pub downlink_parts : GroupIdentityDownlink → List Bits
-downlink_parts = group_parts downlink_front downlink_address_in
+downlink_parts = group_parts attachment_bits downlink_forms downlink_attachment downlink_detachment downlink_address_in
 
 pub downlink_parts_lem : (g : GroupIdentityDownlink) → joined (downlink_parts g) ≡ downlink_bits g
-unfolding joined downlink_front downlink_back downlink_bits
-downlink_parts_lem g =
-    rw (append-nil (group_back (downlink_address_in g)))
-    (group-parts attachment_bits downlink_forms (downlink_attachment g) (downlink_detachment g) (downlink_address_in g))
+unfolding downlink_bits
+downlink_parts_lem g = group_parts_lem attachment_bits downlink_forms (downlink_attachment g) (downlink_detachment g) (downlink_address_in g)
 
--- what an attachment says has 5 bits
+-- what an attachment of a downlink group says has 5 bits
 pub attachment-length : (t : GroupIdentityAttachment) → length (attachment_bits t) ≡ 5
 unfolding attachment_bits digits
 attachment-length t = refl
-
-attachment-most : (o : Option GroupIdentityAttachment) → length (option_bits attachment_bits o) ≤ 5
-attachment-most None = omega arith
-attachment-most (Some t) = omega (arith, attachment-length t)
-
-pub downlink_front-fits : (g : GroupIdentityDownlink) → length (downlink_front g) ≤ 64
-unfolding downlink_front
-downlink_front-fits g =
-    group_front-fits attachment_bits downlink_forms (downlink_attachment g) (downlink_detachment g) (downlink_address_in g) (attachment-most (downlink_attachment g))
-
-pub downlink_back-fits : (g : GroupIdentityDownlink) → length (downlink_back g) ≤ 64
-unfolding downlink_back
-downlink_back-fits g = group_back-fits (downlink_address_in g)
 
 -- ## the groups of a list
 

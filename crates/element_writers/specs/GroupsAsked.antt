@@ -10,11 +10,13 @@ use Rattle.std.proofs.Math.Dec.{ltb}
 use Rattle.std.proofs.lemmas.Bool.{lt-ltb, ltb-true, ltb-false, le-ltb}
 use Rattle.bits.specs.Bits.{Bits, digits}
 use Rattle.bits.specs.BitsLaws.{length_digits}
-use Rattle.elements.specs.Numbers.{option_bits, flag_width}
-use Rattle.elements.specs.Groups.{Form, group_fits, differ, same_form, address_width, address_type_width, address_bits, form_of, type_of, listed_form, kind_of, detachment_width, group_bits}
+use Rattle.elements.specs.Numbers.{option_bits, in_width, flag_width}
+use Rattle.elements.specs.Groups.{uplink_class, uplink_detachment, uplink_address_in, uplink_bits, uplink_fits, uplink_one, uplink_listed, downlink_attachment, downlink_detachment, downlink_address_in, downlink_bits, downlink_fits, downlink_one, downlink_listed, Form, group_fits, differ, same_form, address_width, address_type_width, address_bits, form_of, type_of, listed_form, uplink_forms, downlink_forms, kind_of, detachment_width, class_of_usage_width, attachment_bits, attachment_fits, group_bits}
 use Rattle.elements.specs.Generics.{entries_width}
 use Rattle.elements.proofs.EachLaws.{each_more}
-use Rattle.elements.specs.Lists.{Groups, downlinks, list_as, each, all, list_bits, list_held, list_fits, list_one, list_listed}
+use Rattle.elements.specs.Lists.{Groups, uplinks, downlinks, each, all, list_bits, list_held, list_fits, list_one, list_listed}
+use Rattle.elements.specs.declared.group_identity_uplink.GroupIdentityUplink.{GroupIdentityUplink}
+use Rattle.elements.specs.declared.group_identity_downlink.GroupIdentityDownlink.{GroupIdentityDownlink}
 use Rattle.elements.specs.declared.group_address.GroupAddress.{GroupAddress}
 use Rattle.element_writers.specs.declared.group_address.GroupsAsked.{GroupsAsked}
 
@@ -48,9 +50,9 @@ asked_count n = record { fits = leb n 63; one = true; listed = true; size = entr
 abbrev pub asked_both : GroupsAsked → GroupsAsked → GroupsAsked
 asked_both x y = record { fits = x.fits && y.fits; one = x.one && y.one; listed = x.listed && y.listed; size = x.size + y.size }
 
--- those of a list that is absent, or present without entries; they are the same for each kind of group
-abbrev pub asked_empty : Bool → GroupsAsked
-asked_empty p = asked_list downlinks (list_as downlinks p [])
+-- no groups
+abbrev pub asked_none : GroupsAsked
+asked_none = record { fits = true; one = true; listed = true; size = 0 }
 
 -- ## laws
 
@@ -87,22 +89,38 @@ group-size bits forms t d a =
     let lz : length z ≡ 2 = length_digits address_type_width (type_of forms (form_of a)) in
     sym (simp length-append (omega arith))
 
--- what is asked of a group whose attachment says w bits
-pub group-asked : {T : Type 0} (bits : T → Bits) (fits : T → Bool) (w : ℕ) → ((t : T) → length (bits t) ≡ w) → (forms : List Form) (t : Option T) (d : Option ℕ) (a : GroupAddress)
+-- what is asked of a group of either kind
+abbrev pub asked_parts : {T : Type 0} → (T → Bits) → (T → Bool) → List Form → Option T → Option ℕ → GroupAddress → GroupsAsked
+asked_parts bits fits forms t d a = record {
+  fits = group_fits fits t d a;
+  one = differ (is_some t) (is_some d);
+  listed = listed_form forms (form_of a);
+  size = length (group_bits bits forms t d a);
+}
+
+-- where an attachment says w bits, and there are n address types
+pub group-asked : {T : Type 0} (bits : T → Bits) (fits : T → Bool) {w n : ℕ} → ((t : T) → length (bits t) ≡ w) → (forms : List Form) → length forms ≡ n
+    → (t : Option T) (d : Option ℕ) (a : GroupAddress)
     → ◌≡◌ {A = GroupsAsked}
     (record {
       fits = group_fits fits t d a;
       one = differ (is_some t) (is_some d);
-      listed = ltb (type_of forms (form_of a)) (length forms);
+      listed = ltb (type_of forms (form_of a)) n;
       size = 3 + (cond (is_some t) w 0 + (cond (is_some d) detachment_width 0 + address_size a));
     })
-    (record {
-      fits = group_fits fits t d a;
-      one = differ (is_some t) (is_some d);
-      listed = listed_form forms (form_of a);
-      size = length (group_bits bits forms t d a);
-    })
-group-asked bits fits w h forms t d a = rw (some-size bits w h t, number-size detachment_width d, group-size bits forms t d a, listed-type forms (form_of a))
+    (asked_parts bits fits forms t d a)
+group-asked bits fits {w} {n} h forms e t d a =
+    rw (← e, some-size bits w h t, number-size detachment_width d, group-size bits forms t d a, listed-type forms (form_of a))
+
+pub uplink-asked : (g : GroupIdentityUplink)
+    → asked_parts (digits class_of_usage_width) (in_width class_of_usage_width) uplink_forms (uplink_class g) (uplink_detachment g) (uplink_address_in g) ≡ asked_of uplinks g
+unfolding uplink_bits uplink_fits uplink_one uplink_listed
+uplink-asked g = refl
+
+pub downlink-asked : (g : GroupIdentityDownlink)
+    → asked_parts attachment_bits attachment_fits downlink_forms (downlink_attachment g) (downlink_detachment g) (downlink_address_in g) ≡ asked_of downlinks g
+unfolding downlink_bits downlink_fits downlink_one downlink_listed
+downlink-asked g = refl
 
 -- one group after the other
 module _ {G L : Type 0} (k : Groups G L) where
@@ -116,7 +134,7 @@ module _ {G L : Type 0} (k : Groups G L) where
   all_more test gs i d h = let z : i + 1 ≡ suc i = omega arith in rw z (all-next test gs i d h)
 
   -- of no groups, and of one more
-  pub none_asked : asked_empty false ≡ asked_each k []
+  pub none_asked : asked_none ≡ asked_each k []
   unfolding list_fits list_one list_listed all each
   none_asked = refl
 
@@ -141,12 +159,6 @@ module _ {G L : Type 0} (k : Groups G L) where
       rw (p, e)
       (rw (length-append (digits entries_width (k.count l)) (each k.bits (take (k.count l) (k.groups l))), length_digits entries_width (k.count l)))
 
-  pub no_list-asked : (l : L) → k.present l ≡ false → asked_empty false ≡ asked_list k l
+  pub no_list-asked : (l : L) → k.present l ≡ false → asked_none ≡ asked_list k l
   unfolding list_fits list_one list_listed
   no_list-asked l p = rw p
-
--- a list without entries passes them; it has the bits of its count, or none
-pub empty-asked : (p : Bool) → ◌≡◌ {A = GroupsAsked} (record { fits = true; one = true; listed = true; size = cond p 6 0 }) (asked_empty p)
-unfolding list_fits list_one list_listed all each
-empty-asked true = list-asked downlinks (list_as downlinks true []) refl refl
-empty-asked false = refl

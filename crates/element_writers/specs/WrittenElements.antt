@@ -153,11 +153,6 @@ module _ {G L : Type 0} (k : Groups G L) (parts : G → List Bits) (i : ℕ) whe
   abbrev pub list_parts : ℕ → L → List Bits
   list_parts n l = list_front_bits i n (k.count l) ∷ each parts (take (k.count l) (k.groups l))
 
-  -- without entries: what stands before the groups
-  pub list-empty : (n : ℕ) (l : L) {w v : Written} → k.count l ≤ 0 → Puts (list_front_bits i n 0 ∷ []) w v → Puts (list_parts n l) w v
-  unfolding each
-  list-empty n l h p = let z : k.count l ≡ 0 = omega arith in rw z p
-
   -- behind what stands before it: the O-bit; if it is present the list, and the closing M-bit
   unfoldable pub nested_parts : Bits → ℕ → L → List Bits
   nested_parts xs n l = (xs ++ digits flag_width (bit (k.present l))) ∷ cond (k.present l) (list_parts n l ++ (digits mbit_width 0 ∷ [])) []

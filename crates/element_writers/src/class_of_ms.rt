@@ -1,5 +1,5 @@
 // Class of MS (EN 300 392-2, clause 16.10.5): 24 bits, top bit first.
-ghost use Rattle.std.specs.Prelude.{◌≡◌, ◌<◌};
+ghost use Rattle.std.specs.Prelude.{◌≡◌};
 ghost use Rattle.bits.specs.Written.{Holds};
 ghost use Rattle.elements.specs.Numbers.{type2_bits, held, option_all};
 ghost use Rattle.elements.specs.ClassOfMs.{class_fields, class_bits, class_fits};

@@ -3,37 +3,13 @@ ghost use Rattle.std.specs.Prelude.{◌≡◌, ◌+◌, ◌≤◌};
 ghost use Rattle.bits.specs.Bits.{digits};
 ghost use Rattle.bits.specs.Written.{Joined};
 ghost use Rattle.elements.specs.Numbers.{option_bits, option_all, in_width};
-ghost use Rattle.elements.specs.Groups.{address_width, address_fits, form_of, type_of, uplink_forms, downlink_forms};
+ghost use Rattle.elements.specs.Groups.{address_width, address_fits};
 ghost use Rattle.element_writers.specs.LocationAsked.{location_of};
-ghost use Rattle.element_writers.specs.GroupsAsked.{address_size, asked_empty, asked_count, asked_both};
+ghost use Rattle.element_writers.specs.GroupsAsked.{address_size, asked_count, asked_both};
 
 use crate::typed_pdu_fields::{ask_type2, nested_size, width_if};
 use bits::bitbuffer::Digits;
 use elements::group_address::GroupAddress;
-
-// The address type of the parts that are present; past the last type where they are not listed.
-pub(crate) fn uplink_type(a: GroupAddress) -> u64
-    ensures { result ≡ type_of uplink_forms (form_of a) }
-{
-    match (a.gssi, a.address_extension, a.vgssi) {
-        (Some(_), None, None) => 0,
-        (Some(_), Some(_), None) => 1,
-        (None, None, Some(_)) => 2,
-        _ => 3,
-    }
-}
-
-pub(crate) fn downlink_type(a: GroupAddress) -> u64
-    ensures { result ≡ type_of downlink_forms (form_of a) }
-{
-    match (a.gssi, a.address_extension, a.vgssi) {
-        (Some(_), None, None) => 0,
-        (Some(_), Some(_), None) => 1,
-        (None, None, Some(_)) => 2,
-        (Some(_), Some(_), Some(_)) => 3,
-        _ => 4,
-    }
-}
 
 // What questions 8, 10 and 11 find of a group or of a list, and the bits that it has.
 #[derive(Clone, Copy)]
@@ -71,17 +47,13 @@ pub(crate) fn count_asked(count: usize) -> GroupsAsked
     }
 }
 
-// The same of a list that is absent, or has no entries.
-pub(crate) fn no_groups(present: bool) -> GroupsAsked
-    ensures { (result ≡ asked_empty present) × (result.size ≤ 6) }
-{
-    GroupsAsked {
-        fits: true,
-        one: true,
-        listed: true,
-        size: width_if(present, 6),
-    }
-}
+// The same of no groups, and of a list that is absent.
+pub(crate) const NO_GROUPS: GroupsAsked = GroupsAsked {
+    fits: true,
+    one: true,
+    listed: true,
+    size: 0,
+};
 
 // What questions 8, 10, 11 and 15 find of a location demand or accept, and the lengths of its list's content and of its own.
 #[derive(Clone, Copy)]
@@ -115,11 +87,12 @@ pub(crate) fn location_of(own: bool, listed: bool, a: GroupsAsked) -> LocationAs
         one: a.one,
         listed: a.listed,
         short: (content < 0x800) & (list < 0x800),
-        list: list,
-        content: content,
+        list,
+        content,
     }
 }
 
+#[tactic(auto, unfolding(elements::specs::Groups::address_fits))]
 pub(crate) fn address_fits(a: GroupAddress) -> bool
     ensures { result ≡ address_fits a }
 {

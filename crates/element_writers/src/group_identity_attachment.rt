@@ -1,18 +1,11 @@
 // Group identity attachment (EN 300 392-2, clause 16.10.19).
 ghost use Rattle.std.specs.Prelude.{◌≡◌};
-ghost use Rattle.elements.specs.Groups.{kind_of, attachment_bits, attachment_fits};
+ghost use Rattle.elements.specs.Groups.{attachment_bits, attachment_fits};
 ghost use Rattle.elements.specs.Numbers.{option_bits, option_all};
 ghost use Rattle.bits.specs.Written.{Joined};
 
 use bits::bitbuffer::Digits;
 use elements::group_identity_attachment::GroupIdentityAttachment;
-
-// The attach/detach type identifier.
-pub(crate) fn kind_of(attached: bool) -> u64
-    ensures { result ≡ kind_of attached }
-{
-    !attached as u64
-}
 
 // An attachment that may be absent, behind other bits.
 pub(crate) fn then_attachment(d: Digits, o: Option<GroupIdentityAttachment>) -> Digits
@@ -27,6 +20,7 @@ pub(crate) fn then_attachment(d: Digits, o: Option<GroupIdentityAttachment>) -> 
 }
 
 // Whether its numbers, if it is present, are in their widths.
+#[tactic(auto, unfolding(elements::specs::Groups::attachment_fits))]
 pub(crate) fn attachment_fits(o: Option<GroupIdentityAttachment>) -> bool
     ensures { result ≡ option_all attachment_fits o }
 {

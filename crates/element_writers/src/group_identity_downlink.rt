@@ -1,53 +1,65 @@
 // Group identity downlink (EN 300 392-2, clause 16.10.22).
-ghost use Rattle.std.specs.Prelude.{◌≡◌, ◌≤◌};
+ghost use Rattle.std.proofs.Common.{rules};
+ghost use Rattle.std.specs.Prelude.{◌≡◌, refl, ◌≤◌};
 ghost use Rattle.bits.specs.Placed.{as_place};
-ghost use Rattle.bits.specs.Written.{written};
+ghost use Rattle.bits.specs.Written.{Joined, written};
 ghost use Rattle.bits.specs.PutsLaws.{Puts};
 ghost use Rattle.element_writers.specs.GroupsAsked.{asked_list};
-ghost use Rattle.element_writers.specs.GroupParts.{downlink_front, downlink_front-fits};
+ghost use Rattle.element_writers.specs.GroupParts.{attachment-length};
+ghost use Rattle.element_writers.specs.GroupsAsked.{downlink-asked};
 ghost use Rattle.element_writers.specs.WrittenElements.{outer_list_parts};
-ghost use Rattle.elements.specs.Groups.{downlink_attachment, downlink_detachment, downlink_address_in};
+ghost use Rattle.elements.specs.Numbers.{option_bits, option_all};
+ghost use Rattle.elements.specs.Groups.{attachment_bits, attachment_fits, downlink_forms, downlink_attachment, downlink_detachment, downlink_address_in};
 ghost use Rattle.elements.specs.Locations.{group_identity_downlink_identifier};
 ghost use Rattle.elements.specs.Lists.{downlinks};
 
-use crate::group_address::{GroupsAsked, address_fits, address_size, downlink_type};
-use crate::group_identity_attachment::{attachment_fits, kind_of, then_attachment};
+use crate::group_address::GroupsAsked;
+use crate::group_identity_attachment::{attachment_fits, then_attachment};
 use crate::group_list::{GroupList, ask_list, put_list};
-use crate::typed_pdu_fields::{ask_type2, then_if, width_if};
-use bits::bitbuffer::{Digits, NO_DIGITS, Place};
+use bits::bitbuffer::{Digits, Place};
 use elements::group_address::GroupAddress;
 use elements::group_identity_attachment::GroupIdentityAttachment;
 use elements::group_identity_downlink::{GroupIdentityDownlink, OptionalDownlinks};
 use elements::type34_elem_id_dl::GROUP_IDENTITY_DOWNLINK;
 
-fn attachment_of(g: GroupIdentityDownlink) -> Option<GroupIdentityAttachment>
-    ensures { result ≡ downlink_attachment g }
-{
-    g.group_identity_attachment_present
-        .then_some(g.group_identity_attachment)
-}
-
-fn detachment_of(g: GroupIdentityDownlink) -> Option<u64>
-    ensures { result ≡ downlink_detachment g }
-{
-    g.group_identity_detachment_uplink_present
-        .then_some(g.group_identity_detachment_uplink as u64)
-}
-
 impl GroupList for OptionalDownlinks {
     type Group = GroupIdentityDownlink;
 
+    type Attachment = GroupIdentityAttachment;
+
     ghost kind = { downlinks };
 
-    ghost front = { downlink_front };
+    ghost attachment = { downlink_attachment };
+
+    ghost detachment = { downlink_detachment };
 
     ghost address = { downlink_address_in };
 
+    ghost bits = { attachment_bits };
+
+    ghost fits = { attachment_fits };
+
+    ghost forms = { downlink_forms };
+
     ghost IDENTIFIER = { group_identity_downlink_identifier };
 
-    ghost front_fits = { downlink_front-fits };
+    ghost ATTACHMENT_WIDTH = { 5 };
+
+    ghost ADDRESS_TYPES = { 4 };
+
+    ghost asked = { downlink-asked };
+
+    ghost wide = { attachment-length };
+
+    ghost few = { Prim.search rules };
+
+    ghost types = { refl };
 
     const IDENTIFIER: u8 = GROUP_IDENTITY_DOWNLINK;
+
+    const ATTACHMENT_WIDTH: usize = 5;
+
+    const ADDRESS_TYPES: u64 = 4;
 
     fn presence(&self) -> bool {
         self.present
@@ -62,6 +74,16 @@ impl GroupList for OptionalDownlinks {
         &groups[..self.count.min(groups.len())]
     }
 
+    fn attachment(g: GroupIdentityDownlink) -> Option<GroupIdentityAttachment> {
+        g.group_identity_attachment_present
+            .then_some(g.group_identity_attachment)
+    }
+
+    fn detachment(g: GroupIdentityDownlink) -> Option<u64> {
+        g.group_identity_detachment_uplink_present
+            .then_some(g.group_identity_detachment_uplink as u64)
+    }
+
     fn address(g: GroupIdentityDownlink) -> GroupAddress {
         GroupAddress {
             gssi: g.gssi_present.then_some(g.gssi),
@@ -70,27 +92,26 @@ impl GroupList for OptionalDownlinks {
         }
     }
 
-    fn front(g: GroupIdentityDownlink) -> Digits {
-        let attachment = attachment_of(g);
-        let a = OptionalDownlinks::address(g);
-        let k = NO_DIGITS.then(kind_of(attachment.is_some()), 1);
-        let u = then_attachment(k, attachment);
-        let d = then_if(u, detachment_of(g), 2);
-        let t = d.then(downlink_type(a), 2);
-        then_if(t, a.gssi, 24)
+    fn then_attachment(d: Digits, o: Option<GroupIdentityAttachment>) -> Digits
+        ensures { Joined d (option_bits attachment_bits o) result }
+    {
+        then_attachment(d, o)
     }
 
-    fn ask(g: GroupIdentityDownlink) -> GroupsAsked {
-        let attachment = attachment_of(g);
-        let detachment = detachment_of(g);
-        let a = OptionalDownlinks::address(g);
-        let u = attachment.is_some();
-        let d = detachment.is_some();
-        GroupsAsked {
-            fits: attachment_fits(attachment) & (ask_type2(detachment, 2) & address_fits(a)),
-            one: u != d,
-            listed: downlink_type(a) < 4,
-            size: 3 + (width_if(u, 5) + (width_if(d, 2) + address_size(a))),
+    fn attachment_fits(o: Option<GroupIdentityAttachment>) -> bool
+        ensures { result ≡ option_all attachment_fits o }
+    {
+        attachment_fits(o)
+    }
+
+    #[tactic(auto, unfolding(elements::specs::Groups::type_of))]
+    fn address_type(a: GroupAddress) -> u64 {
+        match (a.gssi, a.address_extension, a.vgssi) {
+            (Some(_), None, None) => 0,
+            (Some(_), Some(_), None) => 1,
+            (None, None, Some(_)) => 2,
+            (Some(_), Some(_), Some(_)) => 3,
+            _ => 4,
         }
     }
 }

@@ -27,6 +27,7 @@ pub fn ask_location_accept(o: OptionalLocationAccept) -> LocationAsked
     NO_LOCATION
 }
 
+// What this has in common with the demand is in `put_nested`; a trait for the rest would have more lines than it.
 // The element, which may be absent; its list's content has `list` bits, its own `content`.
 pub fn write_location_accept(
     m: Place,

@@ -1,48 +1,61 @@
 // Group identity uplink (EN 300 392-2, clause 16.10.27).
-ghost use Rattle.std.specs.Prelude.{◌≡◌, ◌≤◌};
-ghost use Rattle.element_writers.specs.GroupsAsked.{asked_list};
-ghost use Rattle.element_writers.specs.GroupParts.{uplink_front, uplink_front-fits};
-ghost use Rattle.elements.specs.Groups.{uplink_class, uplink_detachment, uplink_address_in};
+ghost use Rattle.std.proofs.Common.{rules};
+ghost use Rattle.std.specs.Prelude.{◌≡◌, refl, ◌≤◌};
+ghost use Rattle.element_writers.specs.GroupsAsked.{asked_list, uplink-asked};
+ghost use Rattle.bits.specs.Bits.{digits};
+ghost use Rattle.bits.specs.BitsLaws.{length_digits};
+ghost use Rattle.elements.specs.Numbers.{option_bits, option_all, in_width};
+ghost use Rattle.bits.specs.Written.{Joined};
+ghost use Rattle.elements.specs.Groups.{class_of_usage_width, uplink_forms, uplink_class, uplink_detachment, uplink_address_in};
 ghost use Rattle.elements.specs.Locations.{group_identity_uplink_identifier};
 ghost use Rattle.elements.specs.Lists.{uplinks};
 
-use crate::group_address::{GroupsAsked, address_fits, address_size, uplink_type};
-use crate::group_identity_attachment::kind_of;
+use crate::group_address::GroupsAsked;
 use crate::group_list::{GroupList, ask_list};
-use crate::typed_pdu_fields::{ask_type2, then_if, width_if};
-use bits::bitbuffer::{Digits, NO_DIGITS};
+use crate::typed_pdu_fields::{ask_type2, then_if};
+use bits::bitbuffer::Digits;
 use elements::group_address::GroupAddress;
 use elements::group_identity_uplink::{GroupIdentityUplink, OptionalUplinks};
 use elements::type34_elem_id_ul::GROUP_IDENTITY_UPLINK;
 
-// The class of usage of an attachment.
-fn class_of(g: GroupIdentityUplink) -> Option<u64>
-    ensures { result ≡ uplink_class g }
-{
-    g.class_of_usage_present.then_some(g.class_of_usage as u64)
-}
-
-fn detachment_of(g: GroupIdentityUplink) -> Option<u64>
-    ensures { result ≡ uplink_detachment g }
-{
-    g.group_identity_detachment_uplink_present
-        .then_some(g.group_identity_detachment_uplink as u64)
-}
-
 impl GroupList for OptionalUplinks {
     type Group = GroupIdentityUplink;
 
+    type Attachment = u64;
+
     ghost kind = { uplinks };
 
-    ghost front = { uplink_front };
+    ghost attachment = { uplink_class };
+
+    ghost detachment = { uplink_detachment };
 
     ghost address = { uplink_address_in };
 
+    ghost bits = { digits class_of_usage_width };
+
+    ghost fits = { in_width class_of_usage_width };
+
+    ghost forms = { uplink_forms };
+
     ghost IDENTIFIER = { group_identity_uplink_identifier };
 
-    ghost front_fits = { uplink_front-fits };
+    ghost ATTACHMENT_WIDTH = { 3 };
+
+    ghost ADDRESS_TYPES = { 3 };
+
+    ghost asked = { uplink-asked };
+
+    ghost wide = { length_digits class_of_usage_width };
+
+    ghost few = { Prim.search rules };
+
+    ghost types = { refl };
 
     const IDENTIFIER: u8 = GROUP_IDENTITY_UPLINK;
+
+    const ATTACHMENT_WIDTH: usize = 3;
+
+    const ADDRESS_TYPES: u64 = 3;
 
     fn presence(&self) -> bool {
         self.present
@@ -57,6 +70,15 @@ impl GroupList for OptionalUplinks {
         &groups[..self.count.min(groups.len())]
     }
 
+    fn attachment(g: GroupIdentityUplink) -> Option<u64> {
+        g.class_of_usage_present.then_some(g.class_of_usage as u64)
+    }
+
+    fn detachment(g: GroupIdentityUplink) -> Option<u64> {
+        g.group_identity_detachment_uplink_present
+            .then_some(g.group_identity_detachment_uplink as u64)
+    }
+
     fn address(g: GroupIdentityUplink) -> GroupAddress {
         GroupAddress {
             gssi: g.gssi_present.then_some(g.gssi),
@@ -65,27 +87,25 @@ impl GroupList for OptionalUplinks {
         }
     }
 
-    fn front(g: GroupIdentityUplink) -> Digits {
-        let class = class_of(g);
-        let a = OptionalUplinks::address(g);
-        let k = NO_DIGITS.then(kind_of(class.is_some()), 1);
-        let u = then_if(k, class, 3);
-        let d = then_if(u, detachment_of(g), 2);
-        let t = d.then(uplink_type(a), 2);
-        then_if(t, a.gssi, 24)
+    fn then_attachment(d: Digits, o: Option<u64>) -> Digits
+        ensures { Joined d (option_bits (digits class_of_usage_width) o) result }
+    {
+        then_if(d, o, 3)
     }
 
-    fn ask(g: GroupIdentityUplink) -> GroupsAsked {
-        let class = class_of(g);
-        let detachment = detachment_of(g);
-        let a = OptionalUplinks::address(g);
-        let u = class.is_some();
-        let d = detachment.is_some();
-        GroupsAsked {
-            fits: ask_type2(class, 3) & (ask_type2(detachment, 2) & address_fits(a)),
-            one: u != d,
-            listed: uplink_type(a) < 3,
-            size: 3 + (width_if(u, 3) + (width_if(d, 2) + address_size(a))),
+    fn attachment_fits(o: Option<u64>) -> bool
+        ensures { result ≡ option_all (in_width class_of_usage_width) o }
+    {
+        ask_type2(o, 3)
+    }
+
+    #[tactic(auto, unfolding(elements::specs::Groups::type_of))]
+    fn address_type(a: GroupAddress) -> u64 {
+        match (a.gssi, a.address_extension, a.vgssi) {
+            (Some(_), None, None) => 0,
+            (Some(_), Some(_), None) => 1,
+            (None, None, Some(_)) => 2,
+            _ => 3,
         }
     }
 }

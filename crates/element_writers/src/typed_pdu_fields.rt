@@ -86,12 +86,14 @@ pub fn ask_type2<H: Held>(o: H, width: usize) -> bool
 pub(crate) fn element_header(identifier: u8, size: usize) -> Digits
     ensures { Holds result (header_bits identifier size) }
 {
-    let m = NO_DIGITS.then(1, 1);
-    let i = m.then(identifier as u64, 4);
-    i.then(size as u64, 11)
+    NO_DIGITS
+        .then(1, 1)
+        .then(identifier as u64, 4)
+        .then(size as u64, 11)
 }
 
 // Question 8 of a generic element that may be absent: at most 64 bits, data within them, at most 63 entries.
+#[tactic(auto, unfolding(elements::specs::Generics::type3_fits))]
 pub fn type3_fits(o: OptionalType3) -> bool
     ensures { result ≡ option_all type3_fits (type3_held o) }
 {
@@ -102,6 +104,7 @@ pub fn type3_fits(o: OptionalType3) -> bool
     true
 }
 
+#[tactic(auto, unfolding(elements::specs::Generics::type4_fits))]
 pub fn type4_fits(o: OptionalType4) -> bool
     ensures { result ≡ option_all type4_fits (type4_held o) }
 {
@@ -131,6 +134,7 @@ pub fn write_type3_generic(m: Place, octets: &mut [u8], identifier: u8, o: Optio
 }
 
 // How many bits a type 3 element that may be absent has; none where it is longer than 64 bits, which is not written.
+#[tactic(auto, unfolding(crate::specs::WrittenElements::type3_size))]
 pub fn type3_size(o: OptionalType3) -> usize
     ensures { (result ≡ type3_size o) × (result ≤ 80) }
 {

@@ -4,8 +4,5 @@ use Rattle.bits.specs.Bits.{digits}
 use Rattle.bits.specs.DigitsLaws.{no_digits, ◌▹◌}
 use Rattle.element_writers.proofs.class_of_ms.type2_class.Goals as goal
 
-pub returns-then-o : goal.returns-then-o
-returns-then-o c = rw c.if-o.true c.present_class.ensures
-
 pub returns : goal.returns
 returns c = rw (c.if-o.false, append-nil (digits 1 0)) (no_digits ▹ c.then.ensures)

@@ -19,6 +19,3 @@ returns-then-o c =
       c.held-frame.ensures,
       c.held-multiframe.ensures,
     )
-
-pub returns : goal.returns
-returns c = rw c.if-o.false

@@ -1,7 +1,5 @@
 -- `element_writers::energy_saving_information::then_saving` meets its contract. Assumes nothing.
 use Rattle.std.specs.Prelude.{◌≡◌}
-use mathlib.Core.List.{append-nil}
-use Rattle.bits.specs.Bits.{digits}
 use Rattle.bits.specs.DigitsLaws.{joined-twice}
 use Rattle.elements.specs.Numbers.{value_or, in_u8}
 use Rattle.elements.specs.EnergySaving.{saving_bits}
@@ -15,7 +13,3 @@ returns-then-o c =
     let m : c.unwrap_or-then-o.result ≡ value_or 0 (in_u8 e.multiframe_number) = rw c.held-multiframe.ensures at c.unwrap_or-then-o.ensures in
     rw (c.if-o.true, ← f, ← m)
     (joined-twice c.then-p.ensures (joined-twice c.then-m.ensures (joined-twice c.then-f.ensures c.then.ensures)))
-
-pub returns : goal.returns
-returns c =
-    rw (c.if-o.false, append-nil (digits 1 0)) c.then-2.ensures

@@ -13,6 +13,4 @@ returns-then-presence g c =
     )
 
 pub returns : goal.returns
-returns g c =
-    let few = c.no_groups.ensures.1 in
-    (c.no_groups.ensures.0 ∙ no_list-asked g.L.GroupList.kind c.args.list.now (sym c.presence.ensures ∙ c.if-presence.false), omega arith)
+returns g c = (no_list-asked g.L.GroupList.kind c.args.list.now (sym c.presence.ensures ∙ c.if-presence.false), omega arith)

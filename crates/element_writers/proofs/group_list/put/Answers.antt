@@ -1,9 +1,15 @@
 -- `element_writers::group_list::put` meets its contract: each field has at most 64 bits.
+use Rattle.std.proofs.Common.{arith}
 use Rattle.bits.specs.PutsLaws.{field, ◌⨾◌}
-use Rattle.element_writers.specs.GroupParts.{group_back-fits}
+use Rattle.element_writers.specs.GroupParts.{option_most, group_front-fits, group_back-fits}
 use Rattle.element_writers.proofs.group_list.put.Goals as goal
 
 pub returns : goal.returns
 returns g c =
-    let l = g.met.L.GroupList in
-    field c.front.ensures (l.front_fits c.args.g) c.put-m1.ensures ⨾ field (rw c.address.ensures at c.back.ensures) (group_back-fits (g.L.GroupList.address c.args.g)) c.put.ensures
+    let k = g.L.GroupList in
+    let h = g.met.L.GroupList in
+    let i = c.args.g in
+    let few = h.few in
+    let most = option_most k.bits k.ATTACHMENT_WIDTH h.wide (k.attachment i) in
+    field c.front.ensures (group_front-fits k.bits k.forms (k.attachment i) (k.detachment i) (k.address i) (omega arith)) c.put-m1.ensures
+    ⨾ field (rw c.address.ensures at c.back.ensures) (group_back-fits (k.address i)) c.put.ensures

@@ -12,4 +12,4 @@ pub loop-g-preserved : goal.loop-g-preserved
 loop-g-preserved g c =
     let k = g.L.GroupList in
     let l = c.loop-g in
-    each-one (group_parts k.front k.address) c.args.groups.now l.g-index c.loop-g-test.true c.g-item.is l.invariant c.put-place.ensures
+    each-one (group_parts k.bits k.forms k.attachment k.detachment k.address) c.args.groups.now l.g-index c.loop-g-test.true c.g-item.is l.invariant c.put-place.ensures
