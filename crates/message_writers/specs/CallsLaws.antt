@@ -13,7 +13,7 @@ use Rattle.bits.specs.WrittenLaws.{write-there}
 use Rattle.bits.specs.declared.bitbuffer.Cursor.{Cursor}
 use Rattle.messages.specs.Head.{u_location_update_demand_type, d_location_update_accept_type, d_attach_detach_group_identity_type}
 use Rattle.messages.specs.Questions.{Asked, first_no}
-use Rattle.messages.specs.Calls.{Message, message_of, known, good_call, message_bits, message_asked, writing_refusal, writing_of, writing, octets_written}
+use Rattle.messages.specs.Calls.{message_of, known, good_call, message_bits, message_asked, writing_refusal, writing_of, writing, octets_written}
 use Rattle.messages.proofs.PlacedCalls.{good_window_lem}
 use Rattle.messages.proofs.RoundTrip.{passed}
 use Rattle.messages.specs.declared.Record.{Record}
