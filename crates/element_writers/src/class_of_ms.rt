@@ -13,7 +13,7 @@ const WIDTHS: [usize; 22] = [
 ];
 
 // The fields in order.
-fn fields_of(m: ClassOfMs) -> [u8; 22]
+pub fn fields_of(m: ClassOfMs) -> [u8; 22]
     ensures { result ≡ class_fields m }
 {
     [

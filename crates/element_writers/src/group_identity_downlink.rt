@@ -85,11 +85,7 @@ impl GroupList for OptionalDownlinks {
     }
 
     fn address(g: GroupIdentityDownlink) -> GroupAddress {
-        GroupAddress {
-            gssi: g.gssi_present.then_some(g.gssi),
-            address_extension: g.address_extension_present.then_some(g.address_extension),
-            vgssi: g.vgssi_present.then_some(g.vgssi),
-        }
+        g.address()
     }
 
     fn then_attachment(d: Digits, o: Option<GroupIdentityAttachment>) -> Digits

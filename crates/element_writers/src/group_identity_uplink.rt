@@ -80,11 +80,7 @@ impl GroupList for OptionalUplinks {
     }
 
     fn address(g: GroupIdentityUplink) -> GroupAddress {
-        GroupAddress {
-            gssi: g.gssi_present.then_some(g.gssi),
-            address_extension: g.address_extension_present.then_some(g.address_extension),
-            vgssi: g.vgssi_present.then_some(g.vgssi),
-        }
+        g.address()
     }
 
     fn then_attachment(d: Digits, o: Option<u64>) -> Digits

@@ -1,6 +1,6 @@
 -- Lists of groups, read at a cursor: for any kind of group.
 use Rattle.std.specs.Prelude.{ℕ, ◌+◌, ◌-◌, ◌≤◌, ◌<◌, ◌^◌, ◌≡◌, Bool, ◌&&◌, List, ◌++◌, take, drop, set, replicate, leb, eqb}
-use Rattle.std.proofs.Common.{arith, ◌∙◌, length-set, length-take-le, le-leb, eq-eqb, eqb-true}
+use Rattle.std.proofs.Common.{arith, ◌∙◌, length-set, length-take-le, le-leb, eqb-true}
 use Rattle.std.proofs.Math.Path.{refl, sym, ap}
 use Rattle.std.proofs.Math.Bool.{true, false}
 use Rattle.std.specs.Prelude.{None, Some}
@@ -8,7 +8,7 @@ use Rattle.std.proofs.Math.ListN.{length}
 use Rattle.std.proofs.lemmas.Bool.{lt-leb}
 use Rattle.bits.specs.Bits.{Bits}
 use Rattle.bits.specs.PduParseError.{type4_underflow, inconsistent_length}
-use Rattle.bits.specs.Reader.{Answer, got, refused, Reader, then, ◌>>=◌, field, unless, times, Tail}
+use Rattle.bits.specs.Reader.{Answer, got, refused, Reader, then, ◌>>=◌, field, unless, Tail}
 use Rattle.bits.specs.ReaderLaws.{then-then, then_same, split-then, refused-got, local·rules, local_tail, field-local, field_lt, unless-local, zero_one}
 use Rattle.bits.specs.Placed.{window, Placed, placed, halted, at}
 use Rattle.bits.specs.PlacedLaws.{Gives, told, step, stop, done}
@@ -18,7 +18,7 @@ use Rattle.elements.specs.Generics.{entries_width, entries}
 use Rattle.elements.specs.Numbers.{value_or}
 use Rattle.elements.proofs.NumbersLaws.{both}
 use Rattle.elements.proofs.PlacedOptional.{known}
-use Rattle.elements.specs.Table.{length_width, look, Header, header, slot}
+use Rattle.elements.specs.Table.{length_width, look, Header, header}
 use Rattle.elements.proofs.TableLaws.{two_slots, slot_cases, slot_tail}
 use Rattle.elements.specs.Lists.{Groups, list_as, list_of, groups_as, list, entries_most}
 use Rattle.elements.proofs.ListsLaws.{Sound, entries-local}

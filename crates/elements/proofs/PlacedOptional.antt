@@ -3,13 +3,11 @@ use Rattle.std.specs.Prelude.{ℕ, ◌^◌, ◌<◌, ◌≡◌, Bool, true, fals
 use Rattle.std.proofs.Common.{sym, ◌∙◌, eq-eqb, ne_eqb}
 use Rattle.std.proofs.Math.Path.{ap}
 use Rattle.std.specs.Prelude.{Option, None, Some}
-use Rattle.bits.specs.Bits.{Bits}
-use Rattle.bits.specs.Reader.{Answer, Reader, got, refused, then, ◌>>=◌, field, optional, Local, Tail}
-use Rattle.bits.specs.ReaderLaws.{local_tail, field-local, field_lt, got-local, bind_tail, optional-local, split-then, got-refused, then-then, then_same}
+use Rattle.bits.specs.Reader.{Answer, Reader, got, refused, then, ◌>>=◌, field, optional, Tail}
+use Rattle.bits.specs.ReaderLaws.{local_tail, field-local, field_lt, got-local, bind_tail, split-then, got-refused}
 use Rattle.std.specs.Prelude.{Result, Ok, Err, option_map, refl}
 use Rattle.bits.specs.Placed.{window, Placed, placed, halted, at, as_by, as_read}
 use Rattle.bits.specs.PlacedLaws.{Gives, told, told-not, gives, gives-not, step, stop, done}
-use Rattle.bits.specs.PlacedTimes.{alike, optional_through}
 use Rattle.bits.specs.declared.bitbuffer.Cursor.{Cursor}
 use Rattle.elements.specs.Numbers.{flag_width, type2}
 use Rattle.bits.specs.declared.pdu_parse_error.PduParseErr.{PduParseErr}

@@ -1,5 +1,5 @@
 -- What the verdict tells of an answer that holds it beside the value.
-use Rattle.std.specs.Prelude.{ℕ, ◌≡◌, refl, List, Result, Ok, Err}
+use Rattle.std.specs.Prelude.{ℕ, ◌≡◌, List, Result, Ok, Err}
 use Rattle.std.proofs.Common.{sym, ap, ◌∙◌}
 use Rattle.bits.specs.Reader.{Reader}
 use Rattle.bits.specs.ReaderLaws.{zero_one}

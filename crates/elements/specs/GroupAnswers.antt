@@ -1,8 +1,8 @@
 -- What the code's answers say of lists and structures.
-use Rattle.std.specs.Prelude.{ℕ, Bool, true, false, is_some}
-use Rattle.std.specs.Prelude.{Option, None, Some}
-use Rattle.bits.specs.Reader.{Reader, got, ◌>>=◌, optional}
-use Rattle.bits.specs.Placed.{Placed, placed, halted}
+use Rattle.std.specs.Prelude.{ℕ, Bool, true, false}
+use Rattle.std.specs.Prelude.{None}
+use Rattle.bits.specs.Reader.{Reader, got, ◌>>=◌}
+use Rattle.bits.specs.Placed.{Placed}
 use Rattle.elements.specs.Numbers.{value_or}
 use Rattle.elements.specs.Table.{slot}
 use Rattle.elements.specs.Lists.{Groups, list, list_of, uplinks, downlinks}

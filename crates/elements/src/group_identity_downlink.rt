@@ -1,7 +1,7 @@
 // Group identity downlink (EN 300 392-2, clause 16.10.22).
 ghost use Rattle.std.specs.Prelude.{◌≡◌, None};
 ghost use Rattle.bits.specs.Placed.{at, as_read, halted};
-ghost use Rattle.elements.specs.Groups.{downlink, downlink_of};
+ghost use Rattle.elements.specs.Groups.{downlink, downlink_of, downlink_address_in};
 ghost use Rattle.elements.specs.Lists.{downlinks, list_of};
 ghost use Rattle.elements.specs.GroupAnswers.{downlinks_answer, nested_slot_if};
 
@@ -109,6 +109,19 @@ fn group_of(
 }
 
 impl GroupIdentityDownlink {
+    // Its address.
+    pub fn address(self) -> GroupAddress
+        ensures { result ≡ downlink_address_in self }
+    {
+        GroupAddress {
+            gssi: self.gssi_present.then_some(self.gssi),
+            address_extension: self
+                .address_extension_present
+                .then_some(self.address_extension),
+            vgssi: self.vgssi_present.then_some(self.vgssi),
+        }
+    }
+
     pub fn from_bitbuf(c: Cursor, octets: &[u8]) -> Read<GroupIdentityDownlink>
         ensures { as_read result ≡ at downlink octets.now c }
     {

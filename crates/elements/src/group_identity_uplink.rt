@@ -1,7 +1,7 @@
 // Group identity uplink (EN 300 392-2, clause 16.10.27).
 ghost use Rattle.std.specs.Prelude.{◌≡◌, None};
 ghost use Rattle.bits.specs.Placed.{at, as_read, halted};
-ghost use Rattle.elements.specs.Groups.{uplink, uplink_of};
+ghost use Rattle.elements.specs.Groups.{uplink, uplink_of, uplink_address_in};
 ghost use Rattle.elements.specs.Lists.{uplinks, list_of};
 ghost use Rattle.elements.specs.GroupAnswers.{uplinks_answer, nested_slot_if};
 
@@ -106,6 +106,19 @@ fn group_of(
 }
 
 impl GroupIdentityUplink {
+    // Its address.
+    pub fn address(self) -> GroupAddress
+        ensures { result ≡ uplink_address_in self }
+    {
+        GroupAddress {
+            gssi: self.gssi_present.then_some(self.gssi),
+            address_extension: self
+                .address_extension_present
+                .then_some(self.address_extension),
+            vgssi: self.vgssi_present.then_some(self.vgssi),
+        }
+    }
+
     pub fn from_bitbuf(c: Cursor, octets: &[u8]) -> Read<GroupIdentityUplink>
         ensures { as_read result ≡ at uplink octets.now c }
     {

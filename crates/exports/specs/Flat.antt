@@ -1,7 +1,12 @@
 -- The flat form of a record, octet by octet (document 01, 'What must change shape').
-use Rattle.std.specs.Prelude.{ℕ, zero, suc, ◌*◌, ◌/◌, ◌%◌, ◌^◌, min, Bool, true, cond, ◌&&◌, List, [], ◌∷◌, ◌++◌, length, take, leb}
+use Rattle.std.specs.Prelude.{ℕ, ◌*◌, min, Bool, true, cond, ◌&&◌, List, [], ◌∷◌, ◌++◌, length, take, leb, Option, is_some, Result, Ok, Err}
 use Rattle.std.proofs.lemmas.List.Edits.{sets}
-use Rattle.bits.specs.PduParseError.{window_too_short}
+use Rattle.std.specs.Int.{w64, to_be_bytes}
+use Rattle.bits.specs.declared.pdu_parse_error.PduParseErr.{PduParseErr}
+use Rattle.bits.specs.PduParseError.{number_of, window_too_short}
+use Rattle.elements.specs.Numbers.{value_or}
+use Rattle.elements.specs.Groups.{uplink_address_in, downlink_address_in}
+use Rattle.elements.specs.declared.group_address.GroupAddress.{GroupAddress}
 use Rattle.bits.specs.Bits.{bit}
 use Rattle.elements.specs.Lists.{each}
 use Rattle.elements.specs.ClassOfMs.{class_fields}
@@ -21,20 +26,17 @@ use Rattle.elements.specs.declared.group_identity_location_accept.OptionalLocati
 use Rattle.messages.specs.Calls.{Message, demand, accept, attach_detach}
 use Rattle.messages.specs.declared.Record.{Record}
 use Rattle.messages.specs.declared.Reading.{Reading}
-use Rattle.messages.specs.declared.Verdict.{Verdict}
-use Rattle.messages.specs.declared.Verdict.TheVariants.{Accepted, Refused}
 use Rattle.messages.specs.declared.u_location_update_demand.ULocationUpdateDemand.{ULocationUpdateDemand}
 use Rattle.messages.specs.declared.d_location_update_accept.DLocationUpdateAccept.{DLocationUpdateAccept}
 use Rattle.messages.specs.declared.d_attach_detach_group_identity.DAttachDetachGroupIdentity.{DAttachDetachGroupIdentity}
 
--- a number in n octets, high octet first
-abbrev pub high_first : ℕ → ℕ → List ℕ
-high_first zero v = []
-high_first (suc n) v = v / 2 ^ (8 * n) % 256 ∷ high_first n v
-
--- A FIELD: presence and value; what is absent is all zeros
+-- A FIELD: presence and value, 8 octets with the high octet first; what is absent is all zeros
 abbrev pub flat_field : Bool → ℕ → List ℕ
-flat_field p v = bit p ∷ high_first 8 (cond p v 0)
+flat_field p v = bit p ∷ to_be_bytes w64 (cond p v 0)
+
+-- a field of a number that may be absent
+abbrev pub flat_option : Option ℕ → List ℕ
+flat_option o = flat_field (is_some o) (value_or 0 o)
 
 -- fields of one presence
 abbrev pub flat_fields : Bool → List ℕ → List ℕ
@@ -66,8 +68,8 @@ flat_saving o =
 
 -- ## groups and lists
 
-abbrev pub flat_address : Bool → ℕ → Bool → ℕ → Bool → ℕ → List ℕ
-flat_address p gssi q extension r vgssi = flat_field p gssi ++ (flat_field q extension ++ flat_field r vgssi)
+abbrev pub flat_address : GroupAddress → List ℕ
+flat_address a = flat_option a.gssi ++ (flat_option a.address_extension ++ flat_option a.vgssi)
 
 abbrev pub flat_attachment : Bool → GroupIdentityAttachment → List ℕ
 flat_attachment p t = bit p ∷ flat_field p t.group_identity_attachment_lifetime ++ flat_field p t.class_of_usage
@@ -76,13 +78,13 @@ abbrev pub flat_uplink : GroupIdentityUplink → List ℕ
 flat_uplink g =
     1 ∷ flat_field g.class_of_usage_present g.class_of_usage
     ++ (flat_field g.group_identity_detachment_uplink_present g.group_identity_detachment_uplink
-    ++ flat_address g.gssi_present g.gssi g.address_extension_present g.address_extension g.vgssi_present g.vgssi)
+    ++ flat_address (uplink_address_in g))
 
 abbrev pub flat_downlink : GroupIdentityDownlink → List ℕ
 flat_downlink g =
     1 ∷ flat_attachment g.group_identity_attachment_present g.group_identity_attachment
     ++ (flat_field g.group_identity_detachment_uplink_present g.group_identity_detachment_uplink
-    ++ flat_address g.gssi_present g.gssi g.address_extension_present g.address_extension g.vgssi_present g.vgssi)
+    ++ flat_address (downlink_address_in g))
 
 -- a list: its count, and as many groups
 abbrev pub flat_list : {G : Type 0} → (G → List ℕ) → Bool → ℕ → List G → List ℕ
@@ -170,15 +172,20 @@ flat_form demand skipped r = flat_demand skipped r.demand
 flat_form accept skipped r = flat_accept skipped r.accept
 flat_form attach_detach skipped r = flat_attach_detach skipped r.attach_detach
 
--- 64 × the bits consumed, plus the refusal's number; a buffer too short gives 16 after every other question
-abbrev pub result_of : Verdict → ℕ → Bool → ℕ
-result_of Accepted consumed fits = cond fits (64 * consumed) window_too_short
-result_of (Refused n) consumed fits = n
+-- 64 × the bits consumed or written, or the refusal's number
+abbrev pub numbered : Result ℕ PduParseErr → ℕ
+numbered (Ok n) = n
+numbered (Err e) = number_of e
+
+-- a buffer too short gives 16 after every other question
+abbrev pub result_of : Result Unit PduParseErr → ℕ → Bool → ℕ
+result_of (Ok z) consumed fits = cond fits (64 * consumed) (number_of window_too_short)
+result_of (Err e) consumed fits = number_of e
 
 -- the flat form at the buffer's front, the octets past it kept; any refusal keeps all
-abbrev pub buffer_of : Verdict → Bool → List ℕ → List ℕ → List ℕ
-buffer_of Accepted fits form flat = cond fits (sets flat 0 form) flat
-buffer_of (Refused n) fits form flat = flat
+abbrev pub buffer_of : Result Unit PduParseErr → Bool → List ℕ → List ℕ → List ℕ
+buffer_of (Ok z) fits form flat = cond fits (sets flat 0 form) flat
+buffer_of (Err e) fits form flat = flat
 
 module _ (m : Message) (r : Reading) (flat : List ℕ) where
   abbrev form : List ℕ

@@ -1,15 +1,22 @@
 -- Octets put one part after the other.
 use Rattle.std.specs.Prelude.{ℕ, suc, ◌+◌, ◌*◌, ◌≤◌, ◌<◌, min, ◌≡◌, Bool, true, false, cond, set, take, drop, get_or}
 use Rattle.std.proofs.Math.Nat.{mul-zero, mul-suc}
-use Rattle.std.proofs.Common.{add_comm, arith, ap, ◌∙◌, length-take, drop-cons}
+use Rattle.std.proofs.Common.{add_comm, append_assoc, arith, ap, ◌∙◌, length-take}
 use Rattle.std.proofs.Math.Path.{refl, sym}
 use mathlib.Core.List.{List, [], ◌∷◌, ◌++◌}
 use Rattle.std.proofs.Math.ListN.{length, length-append}
-use Rattle.std.proofs.lemmas.List.Edits.{sets}
+use Rattle.std.proofs.lemmas.List.Edits.{sets, sets-eq, paste_all}
+use Rattle.std.proofs.lemmas.Slice.{put_mid-paste}
+use borrow.Rule.Slice.PartMut.{put_mid}
 use Rattle.std.proofs.Math.Seq.{length-sets}
 use Rattle.elements.specs.Lists.{each}
 use Rattle.elements.proofs.EachLaws.{each_more, take-most}
-use Rattle.exports.specs.Flat.{shown}
+use Rattle.std.specs.Prelude.{Result}
+use Rattle.std.specs.Result.{IsErrAnd}
+use Rattle.std.proofs.lemmas.Result.{err_from_is_err_and}
+use Rattle.bits.specs.PduParseError.{number_of}
+use Rattle.bits.specs.declared.pdu_parse_error.PduParseErr.{PduParseErr}
+use Rattle.exports.specs.Flat.{shown, numbered}
 
 -- the octets xs are put into f from `at` on, which makes g; `to` is the place behind them
 pub record Put (f : List ℕ) (at : ℕ) (xs : List ℕ) (g : List ℕ) (to : ℕ) : Type 0 where
@@ -30,13 +37,11 @@ pub ◌⨟◌ : {f g h : List ℕ} {at to end : ℕ} {xs ys : List ℕ} → Put 
     (q.octets ∙ ap (λ (k : ℕ). sets g k ys) p.next ∙ ap (λ (l : List ℕ). sets l (at + length xs) ys) p.octets ∙ sets_sets f at xs ys)
     (q.next ∙ (omega (arith, p.next, length-append xs ys)))
 
--- octets of which i are put: the next of them, and the others
-pub octet_turn : (f : List ℕ) (at : ℕ) (xs : List ℕ) (i d : ℕ) → i < length xs
-    → sets f (at + i) (drop i xs) ≡ sets (set f (at + i) (get_or xs i d)) (at + (i + 1)) (drop (i + 1) xs)
-octet_turn f at xs i d l =
-    let more : i + 1 ≡ suc i = omega arith in
-    let next : at + suc i ≡ suc (at + i) = omega arith in
-    rw (more, next, drop-cons xs i d l)
+-- octets that are copied into f
+pub copied : (f : List ℕ) (at n : ℕ) (ys : List ℕ) → n ≡ length ys → at + n ≤ length f → put_mid at n f ys ≡ sets f at ys
+copied f at n ys e l =
+    let room : at + length ys ≤ length f = rw (← e) l in
+    put_mid-paste at n f ys ys n refl refl e ∙ paste_all f at ys n e ∙ rw e (sym (append_assoc (take at f) ys (drop (at + length ys) f)) ∙ sym (sets-eq ys f at room))
 
 -- ## things one after the other
 
@@ -87,3 +92,9 @@ module _ {G : Type 0} (flat : G → List ℕ) (w : ℕ) (long : (g : G) → leng
   pub length-list : (p : Bool) (n : ℕ) (gs : List G) (ys : List ℕ) → length gs ≡ 63
       → length (cond p (each flat (take n gs)) [] ++ ys) ≡ w * shown p n + length ys
   length-list p n gs ys e = length-append (cond p (each flat (take n gs)) []) ys ∙ ap (λ (k : ℕ). k + length ys) (length-shown p n gs e)
+
+-- ## a refusal's number
+
+-- a refusal handed up by `?`
+pub numbered-up : {n : ℕ} (e : PduParseErr) (y : Result ℕ PduParseErr) → IsErrAnd y (λ x. x ≡ e) → number_of e ≡ n → numbered y ≡ n
+numbered-up e y h p = let w = err_from_is_err_and y h in rw (w.1, w.2) p

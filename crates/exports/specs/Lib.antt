@@ -1,6 +1,7 @@
 pub mod Flat
 pub mod FlatExample
 pub mod FlatLaws
+pub mod FlatLengths
 pub mod ReadLaws
 pub mod ReadNumbers
 pub mod Rewrite

@@ -1,11 +1,11 @@
 -- The numbers of a reading into a flat buffer.
-use Rattle.std.specs.Prelude.{ℕ, ◌%◌, ◌≤◌, ◌<◌, ◌≡◌, refl, ◌⊎◌, Bool, true, false, List, length, leb}
+use Rattle.std.specs.Prelude.{ℕ, ◌%◌, ◌≤◌, ◌<◌, ◌≡◌, refl, ◌⊎◌, Bool, true, false, List, length, leb, Result, Ok, Err}
 use Rattle.std.proofs.Common.{arith, inl, inr}
 use Rattle.messages.specs.Calls.{message_of, reading}
 use Rattle.messages.proofs.CallNumbers.{reading-refused}
 use Rattle.messages.specs.declared.Reading.{Reading}
-use Rattle.messages.specs.declared.Verdict.{Verdict}
-use Rattle.messages.specs.declared.Verdict.TheVariants.{Accepted, Refused}
+use Rattle.bits.specs.PduParseError.{number_of}
+use Rattle.bits.specs.declared.pdu_parse_error.PduParseErr.{PduParseErr}
 use Rattle.exports.specs.Flat.{flat_form, result_of, buffer_of, read_result, read_buffer}
 
 -- A READING INTO A BUFFER IS REFUSED WITH 1 TO 7 OR 16; nothing is then consumed, and the buffer is kept
@@ -27,8 +27,8 @@ module _ (m how : ℕ) (os : List ℕ) (first end : ℕ) (flat : List ℕ) where
       form : List ℕ
       form = flat_form (message_of m) r.skipped r.«record»
 
-      go : (v : Verdict) (fits : Bool) → ((k : ℕ) → v ≡ Refused k → (1 ≤ k) × (k ≤ 7)) → result_of v r.consumed fits % 64 ≡ n
+      go : (v : Result Unit PduParseErr) (fits : Bool) → ((k : PduParseErr) → v ≡ Err k → (1 ≤ number_of k) × (number_of k ≤ 7)) → result_of v r.consumed fits % 64 ≡ n
           → ReadRefused (result_of v r.consumed fits) n flat (buffer_of v fits form flat)
-      go Accepted true l e = absurd (omega arith)
-      go Accepted false l e = record { numbers = inr (omega arith); alone = omega arith; kept = refl }
-      go (Refused k) fits l e = let q = l k refl in record { numbers = inl (omega arith, omega arith); alone = omega arith; kept = refl }
+      go (Ok z) true l e = absurd (omega arith)
+      go (Ok z) false l e = record { numbers = inr (omega arith); alone = omega arith; kept = refl }
+      go (Err k) fits l e = let q = l k refl in record { numbers = inl (omega arith, omega arith); alone = omega arith; kept = refl }

@@ -1,24 +1,24 @@
 -- Rewriting (document 01, 'What must change shape'): a strict reading in one window, and its record written to a second; the first
 -- refusal met is the answer.
-use Rattle.std.specs.Prelude.{ℕ, true, List}
+use Rattle.std.specs.Prelude.{ℕ, true, List, Result, Ok, Err}
 use Rattle.messages.specs.Calls.{reading, writing, octets_written}
 use Rattle.messages.specs.declared.Reading.{Reading}
 use Rattle.messages.specs.declared.Writing.{Writing}
-use Rattle.messages.specs.declared.Verdict.{Verdict}
-use Rattle.messages.specs.declared.Verdict.TheVariants.{Accepted, Refused}
+use Rattle.bits.specs.PduParseError.{number_of}
+use Rattle.bits.specs.declared.pdu_parse_error.PduParseErr.{PduParseErr}
 use Rattle.exports.specs.Flat.{result_of}
 
 abbrev pub writing_result : Writing → ℕ
 writing_result w = result_of w.verdict w.written true
 
 -- what follows a reading, or its refusal
-abbrev pub result_behind : Verdict → ℕ → ℕ
-result_behind Accepted n = n
-result_behind (Refused k) n = k
+abbrev pub result_behind : Result Unit PduParseErr → ℕ → ℕ
+result_behind (Ok z) n = n
+result_behind (Err e) n = number_of e
 
-abbrev pub octets_behind : Verdict → List ℕ → List ℕ → List ℕ
-octets_behind Accepted out out' = out'
-octets_behind (Refused k) out out' = out
+abbrev pub octets_behind : Result Unit PduParseErr → List ℕ → List ℕ → List ℕ
+octets_behind (Ok z) out out' = out'
+octets_behind (Err e) out out' = out
 
 -- the message, the octets and the window read, the octets and the window written to
 module _ (m : ℕ) (os : List ℕ) (first end : ℕ) (out : List ℕ) (outFirst outEnd : ℕ) where

@@ -1,13 +1,13 @@
 -- The numbers of a rewriting: 1 to 7 by its reading, 1 or 8 to 16 by its writing.
-use Rattle.std.specs.Prelude.{ℕ, ◌%◌, ◌≤◌, ◌<◌, ◌≡◌, true, List}
+use Rattle.std.specs.Prelude.{ℕ, ◌%◌, ◌≤◌, ◌<◌, ◌≡◌, true, List, Result, Ok, Err}
 use Rattle.std.proofs.Common.{arith, ⊎_elim}
 use Rattle.std.proofs.Math.Path.{refl}
 use Rattle.messages.specs.Calls.{reading, writing, octets_written}
 use Rattle.messages.proofs.CallNumbers.{reading-refused, writing-refused}
 use Rattle.messages.specs.declared.Reading.{Reading}
 use Rattle.messages.specs.declared.Writing.{Writing}
-use Rattle.messages.specs.declared.Verdict.{Verdict}
-use Rattle.messages.specs.declared.Verdict.TheVariants.{Accepted, Refused}
+use Rattle.bits.specs.PduParseError.{number_of}
+use Rattle.bits.specs.declared.pdu_parse_error.PduParseErr.{PduParseErr}
 use Rattle.exports.specs.Flat.{result_of}
 use Rattle.exports.specs.Rewrite.{writing_result, result_behind, octets_behind, rewrite_result, rewrite_octets}
 
@@ -33,15 +33,15 @@ module _ (m : ℕ) (os : List ℕ) (first end : ℕ) (out : List ℕ) (outFirst 
       written : List ℕ
       written = octets_written m out outFirst outEnd r.«record»
 
-      by-writing : (v : Verdict) → w.verdict ≡ v → result_of v w.written true % 64 ≡ n → RewritingRefused (result_of v w.written true) n out written
-      by-writing Accepted p e = absurd (omega arith)
-      by-writing (Refused k) p e =
+      by-writing : (v : Result Unit PduParseErr) → w.verdict ≡ v → result_of v w.written true % 64 ≡ n → RewritingRefused (result_of v w.written true) n out written
+      by-writing (Ok z) p e = absurd (omega arith)
+      by-writing (Err k) p e =
           let q = writing-refused m out outFirst outEnd r.«record» p in
-          let low : 1 ≤ k = ⊎_elim (λ o. omega arith) (λ o. omega arith) q.numbers in
-          let high : k ≤ 16 = ⊎_elim (λ o. omega arith) (λ o. omega arith) q.numbers in
+          let low : 1 ≤ number_of k = ⊎_elim (λ o. omega arith) (λ o. omega arith) q.numbers in
+          let high : number_of k ≤ 16 = ⊎_elim (λ o. omega arith) (λ o. omega arith) q.numbers in
           record { low = omega arith; high = omega arith; alone = omega arith; kept = q.kept }
 
-      go : (v : Verdict) → r.verdict ≡ v → result_behind v (writing_result w) % 64 ≡ n
+      go : (v : Result Unit PduParseErr) → r.verdict ≡ v → result_behind v (writing_result w) % 64 ≡ n
           → RewritingRefused (result_behind v (writing_result w)) n out (octets_behind v out written)
-      go Accepted p e = by-writing w.verdict refl e
-      go (Refused k) p e = let q = reading-refused m 0 os first end p in record { low = omega arith; high = omega arith; alone = omega arith; kept = refl }
+      go (Ok z) p e = by-writing w.verdict refl e
+      go (Err k) p e = let q = reading-refused m 0 os first end p in record { low = omega arith; high = omega arith; alone = omega arith; kept = refl }

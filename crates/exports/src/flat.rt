@@ -1,67 +1,44 @@
 // The flat form of a record (document 01, 'What must change shape'): a field is a presence octet and 8 octets, high first; what
 // is absent keeps its place, all zeros. Each function puts its part from `at` on and gives the place behind it.
-ghost use Rattle.std.specs.Prelude.{◌≡◌, cond, ◌+◌, ◌*◌, ◌≤◌, [], ◌∷◌, length};
+ghost use Rattle.std.specs.Prelude.{ℕ, ◌≡◌, refl, cond, ◌+◌, ◌*◌, ◌≤◌, leb, List, [], ◌∷◌, length};
 ghost use Rattle.bits.specs.Bits.{bit};
 ghost use Rattle.std.proofs.lemmas.List.Edits.{sets};
-ghost use Rattle.exports.specs.Flat.{high_first, flat_field, flat_fields, flat_type3, flat_type4, flat_class, flat_saving, flat_address, flat_attachment, flat_uplink, flat_downlink, flat_downlinks, flat_location_demand, flat_location_accept, flat_demand_head, flat_demand_options, flat_demand_generics, flat_demand, flat_accept_head, flat_accept_front, flat_accept_generics, flat_accept, flat_attach_detach_head, flat_attach_detach, shown, shown_uplinks, shown_downlinks};
+ghost use Rattle.messages.specs.Calls.{message_of};
+ghost use Rattle.exports.specs.Flat.{flat_field, flat_option, flat_type3, flat_type4, flat_class, flat_saving, flat_address, flat_attachment, flat_uplink, flat_downlink, flat_list, flat_location_demand, flat_location_accept, flat_demand_head, flat_demand_options, flat_demand_generics, flat_accept_head, flat_accept_front, flat_accept_generics, flat_attach_detach_head, flat_form, shown, shown_uplinks, shown_downlinks};
 ghost use Rattle.exports.specs.FlatLaws.{Put};
 
-use element_writers::group_address::at_most_63;
+use element_writers::class_of_ms::fields_of;
 use elements::class_of_ms::OptionalClassOfMs;
 use elements::energy_saving_information::OptionalEnergySavingInformation;
+use elements::group_address::GroupAddress;
 use elements::group_identity_attachment::GroupIdentityAttachment;
-use elements::group_identity_downlink::{GroupIdentityDownlink, OptionalDownlinks};
+use elements::group_identity_downlink::GroupIdentityDownlink;
 use elements::group_identity_location_accept::OptionalLocationAccept;
 use elements::group_identity_location_demand::OptionalLocationDemand;
-use elements::group_identity_uplink::{GroupIdentityUplink, OptionalUplinks};
+use elements::group_identity_uplink::GroupIdentityUplink;
 use elements::typed_pdu_fields::{OptionalType3, OptionalType4, OptionalU8, OptionalU64};
-use message_writers::parts::flag;
+use messages::Pdu;
 use messages::d_attach_detach_group_identity::DAttachDetachGroupIdentity;
 use messages::d_location_update_accept::DLocationUpdateAccept;
 use messages::u_location_update_demand::ULocationUpdateDemand;
 
-fn kept(present: bool, value: u64) -> u64
-    ensures { result ≡ cond present value 0 }
-{
-    if present { value } else { 0 }
-}
-
-// The octets of a number, high first.
-fn high_first(v: u64) -> [u8; 8]
-    ensures { result ≡ high_first 8 v }
-{
-    [
-        ((v >> 56) % 256) as u8,
-        ((v >> 48) % 256) as u8,
-        ((v >> 40) % 256) as u8,
-        ((v >> 32) % 256) as u8,
-        ((v >> 24) % 256) as u8,
-        ((v >> 16) % 256) as u8,
-        ((v >> 8) % 256) as u8,
-        (v % 256) as u8,
-    ]
-}
-
-// 8 octets, high first: made beside the buffer and copied, which is compiled as one store.
-fn put_number(flat: &mut [u8], at: usize, v: u64)
-    requires { at + 8 ≤ length flat.old }
-    ensures { flat.new ≡ sets flat.old at (high_first 8 v) }
-{
-    let octets = high_first(v);
-    let mut i: usize = 0;
-    while i < 8 {
-        flat[at + i] = octets[i];
-        i += 1;
-    }
-}
-
+// 9 octets: the presence, and 8 of the number.
 fn put_field(flat: &mut [u8], at: usize, present: bool, value: u64) -> usize
     requires { at + 9 ≤ length flat.old }
     ensures { Put flat.old at (flat_field present value) flat.new result }
 {
-    flat[at] = flag(present);
-    put_number(flat, at + 1, kept(present, value));
+    let shown = if present { value } else { 0 };
+    flat[at] = present as u8;
+    flat[at + 1..at + 9].copy_from_slice(&shown.to_be_bytes());
     at + 9
+}
+
+// A part of an address, which may be absent.
+fn put_part(flat: &mut [u8], at: usize, part: Option<u32>) -> usize
+    requires { at + 9 ≤ length flat.old }
+    ensures { Put flat.old at (flat_option part) flat.new result }
+{
+    put_field(flat, at, part.is_some(), part.unwrap_or(0) as u64)
 }
 
 fn put_type3(flat: &mut [u8], at: usize, o: OptionalType3) -> usize
@@ -86,55 +63,21 @@ fn put_flag(flat: &mut [u8], at: usize, present: bool) -> usize
     requires { at + 1 ≤ length flat.old }
     ensures { Put flat.old at (bit present ∷ []) flat.new result }
 {
-    flat[at] = flag(present);
+    flat[at] = present as u8;
     at + 1
 }
 
-// The fields of a class of MS, all of one presence.
-fn put_fields(flat: &mut [u8], at: usize, present: bool, values: [u8; 22]) -> usize
-    requires { at + 198 ≤ length flat.old }
-    ensures { Put flat.old at (flat_fields present values) flat.new result }
-{
-    let mut place = at;
-    let mut i: usize = 0;
-    while i < 22 {
-        place = put_field(flat, place, present, values[i] as u64);
-        i += 1;
-    }
-    place
-}
-
+// A class of MS: its fields are all of one presence.
 fn put_class(flat: &mut [u8], at: usize, o: OptionalClassOfMs) -> usize
     requires { at + 199 ≤ length flat.old }
     ensures { Put flat.old at (flat_class o) flat.new result }
 {
-    let a = put_flag(flat, at, o.present);
-    let m = o.value;
-    let values = [
-        m.freq_simplex_duplex,
-        m.multislot_phase_mod,
-        m.concurrent_multicarrier,
-        m.voice,
-        m.e2e_encryption_not_supported,
-        m.circuit_mode_data,
-        m.tetra_packet_data,
-        m.fast_switching,
-        m.dck_encryption,
-        m.clch_needed,
-        m.concurrent_circuit_mode,
-        m.original_advanced_link,
-        m.minimum_mode,
-        m.carrier_specific_signalling,
-        m.authentication,
-        m.sck_encryption,
-        m.air_interface_version,
-        m.common_scch,
-        m.reserved_21,
-        m.mac_d_blck,
-        m.extended_advanced_link,
-        m.d8psk,
-    ];
-    put_fields(flat, a, o.present, values)
+    let mut place = put_flag(flat, at, o.present);
+    let values = fields_of(o.value);
+    for value in &values {
+        place = put_field(flat, place, o.present, *value as u64);
+    }
+    place
 }
 
 fn put_saving(flat: &mut [u8], at: usize, o: OptionalEnergySavingInformation) -> usize
@@ -150,22 +93,13 @@ fn put_saving(flat: &mut [u8], at: usize, o: OptionalEnergySavingInformation) ->
     put_field(flat, d, o.present & m.present, m.value as u64)
 }
 
-fn put_address(
-    flat: &mut [u8],
-    at: usize,
-    gssi_present: bool,
-    gssi: u32,
-    extension_present: bool,
-    extension: u32,
-    vgssi_present: bool,
-    vgssi: u32,
-) -> usize
+fn put_address(flat: &mut [u8], at: usize, address: GroupAddress) -> usize
     requires { at + 27 ≤ length flat.old }
-    ensures { Put flat.old at (flat_address gssi_present gssi extension_present extension vgssi_present vgssi) flat.new result }
+    ensures { Put flat.old at (flat_address address) flat.new result }
 {
-    let a = put_field(flat, at, gssi_present, gssi as u64);
-    let b = put_field(flat, a, extension_present, extension as u64);
-    put_field(flat, b, vgssi_present, vgssi as u64)
+    let a = put_part(flat, at, address.gssi);
+    let b = put_part(flat, a, address.address_extension);
+    put_part(flat, b, address.vgssi)
 }
 
 fn put_attachment(flat: &mut [u8], at: usize, present: bool, t: GroupIdentityAttachment) -> usize
@@ -182,117 +116,132 @@ fn put_attachment(flat: &mut [u8], at: usize, present: bool, t: GroupIdentityAtt
     put_field(flat, b, present, t.class_of_usage as u64)
 }
 
-fn put_uplink(flat: &mut [u8], at: usize, g: GroupIdentityUplink) -> usize
-    requires { at + 46 ≤ length flat.old }
-    ensures { Put flat.old at (flat_uplink g) flat.new result }
-{
-    let a = put_flag(flat, at, true);
-    let b = put_field(flat, a, g.class_of_usage_present, g.class_of_usage as u64);
-    let d = put_field(
-        flat,
-        b,
-        g.group_identity_detachment_uplink_present,
-        g.group_identity_detachment_uplink as u64,
-    );
-    put_address(
-        flat,
-        d,
-        g.gssi_present,
-        g.gssi,
-        g.address_extension_present,
-        g.address_extension,
-        g.vgssi_present,
-        g.vgssi,
-    )
+// A group in its flat form.
+trait FlatGroup: Copy {
+    ghost form: { Self → List ℕ };
+
+    ghost LENGTH: { ℕ };
+    // How many octets it has.
+    const LENGTH: usize;
+
+    fn put(self, flat: &mut [u8], at: usize) -> usize
+        requires { at + LENGTH ≤ length flat.old }
+        ensures { Put flat.old at (form self) flat.new result };
+
+    ghost long: { (g : Self) → length (form g) ≡ LENGTH };
 }
 
-fn put_downlink(flat: &mut [u8], at: usize, g: GroupIdentityDownlink) -> usize
-    requires { at + 56 ≤ length flat.old }
-    ensures { Put flat.old at (flat_downlink g) flat.new result }
-{
-    let a = put_flag(flat, at, true);
-    let t = g.group_identity_attachment;
-    let b = put_attachment(flat, a, g.group_identity_attachment_present, t);
-    let d = put_field(
-        flat,
-        b,
-        g.group_identity_detachment_uplink_present,
-        g.group_identity_detachment_uplink as u64,
-    );
-    put_address(
-        flat,
-        d,
-        g.gssi_present,
-        g.gssi,
-        g.address_extension_present,
-        g.address_extension,
-        g.vgssi_present,
-        g.vgssi,
-    )
+impl FlatGroup for GroupIdentityUplink {
+    ghost form = { flat_uplink };
+
+    ghost LENGTH = { 46 };
+
+    ghost long = { λ g. refl };
+
+    const LENGTH: usize = 46;
+
+    fn put(self, flat: &mut [u8], at: usize) -> usize {
+        let a = put_flag(flat, at, true);
+        let b = put_field(
+            flat,
+            a,
+            self.class_of_usage_present,
+            self.class_of_usage as u64,
+        );
+        let d = put_field(
+            flat,
+            b,
+            self.group_identity_detachment_uplink_present,
+            self.group_identity_detachment_uplink as u64,
+        );
+        put_address(flat, d, self.address())
+    }
 }
 
-// A list's count, and its groups. Location demand and accept put their own lists: a function with one caller is compiled into it,
-// and the list isn't copied for the call.
-fn put_downlinks(flat: &mut [u8], at: usize, present: bool, list: OptionalDownlinks) -> usize
-    requires { at + 9 + 56 * shown present list.count ≤ length flat.old }
-    ensures { Put flat.old at (flat_downlinks present list) flat.new result }
+impl FlatGroup for GroupIdentityDownlink {
+    ghost form = { flat_downlink };
+
+    ghost LENGTH = { 56 };
+
+    ghost long = { λ g. refl };
+
+    const LENGTH: usize = 56;
+
+    fn put(self, flat: &mut [u8], at: usize) -> usize {
+        let a = put_flag(flat, at, true);
+        let t = self.group_identity_attachment;
+        let b = put_attachment(flat, a, self.group_identity_attachment_present, t);
+        let d = put_field(
+            flat,
+            b,
+            self.group_identity_detachment_uplink_present,
+            self.group_identity_detachment_uplink as u64,
+        );
+        put_address(flat, d, self.address())
+    }
+}
+
+// How many groups of a list the flat form shows: as many as its array has at most.
+fn shown_of<G>(present: bool, count: usize, groups: &[G; 63]) -> usize
+    ensures { (result ≡ shown present count) × (result ≤ 63) × (length groups.now ≡ 63) }
 {
-    let mut place = put_field(flat, at, present, list.count as u64);
-    let n = shown_downlinks(present, list);
-    let mut i: usize = 0;
-    while i < n {
-        let g = list.groups[i];
-        place = put_downlink(flat, place, g);
-        i += 1;
+    if present { count.min(63) } else { 0 }
+}
+
+// A list: its count, and its groups.
+fn put_list<G: FlatGroup>(
+    flat: &mut [u8],
+    at: usize,
+    present: bool,
+    count: usize,
+    groups: &[G; 63],
+) -> usize
+    requires { at + 9 + G.LENGTH * shown present count ≤ length flat.old }
+    ensures { Put flat.old at (flat_list G.form present count groups.now) flat.new result }
+{
+    let mut place = put_field(flat, at, present, count as u64);
+    for g in &groups[..shown_of(present, count, groups)] {
+        place = g.put(flat, place);
     }
     place
 }
 
-// The groups are taken out of their list first: taken with its count, they are copied off their alignment.
-fn put_location_demand(flat: &mut [u8], at: usize, o: OptionalLocationDemand) -> usize
-    requires { at + 19 + 46 * shown_uplinks o ≤ length flat.old }
-    ensures { Put flat.old at (flat_location_demand o) flat.new result }
+fn put_location_demand(flat: &mut [u8], at: usize, o: &OptionalLocationDemand) -> usize
+    requires { at + 19 + 46 * shown_uplinks o.now ≤ length flat.old }
+    ensures { Put flat.old at (flat_location_demand o.now) flat.new result }
 {
-    let v = o.value;
-    let list = v.group_identity_uplink;
     let a = put_flag(flat, at, o.present);
     let b = put_field(
         flat,
         a,
         o.present,
-        v.group_identity_attach_detach_mode as u64,
+        o.value.group_identity_attach_detach_mode as u64,
     );
-    let present = o.present & list.present;
-    let mut place = put_field(flat, b, present, list.count as u64);
-    let n = shown_uplinks(present, list);
-    let groups = list.groups;
-    let mut i: usize = 0;
-    while i < n {
-        let g = groups[i];
-        place = put_uplink(flat, place, g);
-        i += 1;
-    }
-    place
+    let list = &o.value.group_identity_uplink;
+    put_list(flat, b, o.present & list.present, list.count, &list.groups)
 }
 
-fn put_location_accept(flat: &mut [u8], at: usize, o: OptionalLocationAccept) -> usize
-    requires { at + 19 + 56 * shown_downlinks o ≤ length flat.old }
-    ensures { Put flat.old at (flat_location_accept o) flat.new result }
+fn put_location_accept(flat: &mut [u8], at: usize, o: &OptionalLocationAccept) -> usize
+    requires { at + 19 + 56 * shown_downlinks o.now ≤ length flat.old }
+    ensures { Put flat.old at (flat_location_accept o.now) flat.new result }
 {
-    let v = o.value;
-    let list = v.group_identity_downlink;
     let a = put_flag(flat, at, o.present);
-    let b = put_field(flat, a, o.present, v.group_identity_accept_reject as u64);
-    let present = o.present & list.present;
-    let mut place = put_field(flat, b, present, list.count as u64);
-    let n = shown_downlinks(present, list);
-    let mut i: usize = 0;
-    while i < n {
-        let g = list.groups[i];
-        place = put_downlink(flat, place, g);
-        i += 1;
-    }
-    place
+    let b = put_field(
+        flat,
+        a,
+        o.present,
+        o.value.group_identity_accept_reject as u64,
+    );
+    let list = &o.value.group_identity_downlink;
+    put_list(flat, b, o.present & list.present, list.count, &list.groups)
+}
+
+// A message's record in its flat form.
+pub(crate) trait Flat: Pdu {
+    // Puts it at the buffer's front, if the buffer has room for it.
+    fn fill(self, flat: &mut [u8], skipped: usize) -> bool
+        ensures fits { result ≡ leb (length (flat_form (message_of Self.TYPE) skipped (Self.of self))) (length flat.old) }
+        ensures buffer { flat.new ≡ cond (leb (length (flat_form (message_of Self.TYPE) skipped (Self.of self))) (length flat.old)) (sets flat.old 0 (flat_form (message_of Self.TYPE) skipped (Self.of self))) flat.old };
 }
 
 fn put_demand_head(
@@ -347,33 +296,42 @@ fn put_demand_generics(
     put_type3(flat, d, proprietary)
 }
 
-pub(crate) fn put_demand(flat: &mut [u8], skipped: usize, own: ULocationUpdateDemand) -> usize
-    requires { (371 + 46 * shown_uplinks own.group_identity_location_demand ≤ length flat.old) × (length own.group_identity_location_demand.value.group_identity_uplink.groups ≡ 63) }
-    ensures { Put flat.old 0 (flat_demand skipped own) flat.new result }
-{
-    let ciphering = own.ciphering_parameters;
-    let a = put_demand_head(
-        flat,
-        skipped,
-        own.location_update_type,
-        own.request_to_append_la,
-        own.cipher_control,
-        ciphering,
-    );
-    let class = own.class_of_ms;
-    let b = put_class(flat, a, class);
-    let mode = own.energy_saving_mode;
-    let la = own.la_information;
-    let ssi = own.ssi;
-    let extension = own.address_extension;
-    let d = put_demand_options(flat, b, mode, la, ssi, extension);
-    let location = own.group_identity_location_demand;
-    let e = put_location_demand(flat, d, location);
-    let response = own.group_report_response;
-    let authentication = own.authentication_uplink;
-    let capabilities = own.extended_capabilities;
-    let proprietary = own.proprietary;
-    put_demand_generics(flat, e, response, authentication, capabilities, proprietary)
+impl Flat for ULocationUpdateDemand {
+    fn fill(self, flat: &mut [u8], skipped: usize) -> bool {
+        let location = &self.group_identity_location_demand;
+        let list = &location.value.group_identity_uplink;
+        let groups = shown_of(location.present & list.present, list.count, &list.groups);
+        if flat.len() < 371 + 46 * groups {
+            return false;
+        }
+        let a = put_demand_head(
+            flat,
+            skipped,
+            self.location_update_type,
+            self.request_to_append_la,
+            self.cipher_control,
+            self.ciphering_parameters,
+        );
+        let b = put_class(flat, a, self.class_of_ms);
+        let d = put_demand_options(
+            flat,
+            b,
+            self.energy_saving_mode,
+            self.la_information,
+            self.ssi,
+            self.address_extension,
+        );
+        let e = put_location_demand(flat, d, location);
+        put_demand_generics(
+            flat,
+            e,
+            self.group_report_response,
+            self.authentication_uplink,
+            self.extended_capabilities,
+            self.proprietary,
+        );
+        true
+    }
 }
 
 fn put_accept_head(
@@ -430,34 +388,42 @@ fn put_accept_generics(
     put_type3(flat, e, proprietary)
 }
 
-pub(crate) fn put_accept(flat: &mut [u8], skipped: usize, own: DLocationUpdateAccept) -> usize
-    requires { (245 + 56 * shown_downlinks own.group_identity_location_accept ≤ length flat.old) × (length own.group_identity_location_accept.value.group_identity_downlink.groups ≡ 63) }
-    ensures { Put flat.old 0 (flat_accept skipped own) flat.new result }
-{
-    let ssi = own.ssi;
-    let extension = own.address_extension;
-    let subscriber = own.subscriber_class;
-    let a = put_accept_head(
-        flat,
-        skipped,
-        own.location_update_accept_type,
-        ssi,
-        extension,
-        subscriber,
-    );
-    let saving = own.energy_saving_information;
-    let scch = own.scch_information_and_distribution_on_18th_frame;
-    let area = own.new_registered_area;
-    let security = own.security_downlink;
-    let b = put_accept_front(flat, a, saving, scch, area, security);
-    let location = own.group_identity_location_accept;
-    let d = put_location_accept(flat, b, location);
-    let lifetime = own.default_group_attachment_lifetime;
-    let authentication = own.authentication_downlink;
-    let groups = own.group_identity_security_related_information;
-    let cell = own.cell_type_control;
-    let proprietary = own.proprietary;
-    put_accept_generics(flat, d, lifetime, authentication, groups, cell, proprietary)
+impl Flat for DLocationUpdateAccept {
+    fn fill(self, flat: &mut [u8], skipped: usize) -> bool {
+        let location = &self.group_identity_location_accept;
+        let list = &location.value.group_identity_downlink;
+        let groups = shown_of(location.present & list.present, list.count, &list.groups);
+        if flat.len() < 245 + 56 * groups {
+            return false;
+        }
+        let a = put_accept_head(
+            flat,
+            skipped,
+            self.location_update_accept_type,
+            self.ssi,
+            self.address_extension,
+            self.subscriber_class,
+        );
+        let b = put_accept_front(
+            flat,
+            a,
+            self.energy_saving_information,
+            self.scch_information_and_distribution_on_18th_frame,
+            self.new_registered_area,
+            self.security_downlink,
+        );
+        let d = put_location_accept(flat, b, location);
+        put_accept_generics(
+            flat,
+            d,
+            self.default_group_attachment_lifetime,
+            self.authentication_downlink,
+            self.group_identity_security_related_information,
+            self.cell_type_control,
+            self.proprietary,
+        );
+        true
+    }
 }
 
 fn put_attach_detach_head(
@@ -476,46 +442,24 @@ fn put_attach_detach_head(
     put_field(flat, d, true, mode as u64)
 }
 
-pub(crate) fn put_attach_detach(
-    flat: &mut [u8],
-    skipped: usize,
-    own: DAttachDetachGroupIdentity,
-) -> usize
-    requires { (108 + 56 * shown own.group_identity_downlink.present own.group_identity_downlink.count ≤ length flat.old) × (length own.group_identity_downlink.groups ≡ 63) }
-    ensures { Put flat.old 0 (flat_attach_detach skipped own) flat.new result }
-{
-    let a = put_attach_detach_head(
-        flat,
-        skipped,
-        own.group_identity_report,
-        own.group_identity_acknowledgement_request,
-        own.group_identity_attach_detach_mode,
-    );
-    let proprietary = own.proprietary;
-    let b = put_type3(flat, a, proprietary);
-    let response = own.group_report_response;
-    let d = put_type3(flat, b, response);
-    let list = own.group_identity_downlink;
-    let e = put_downlinks(flat, d, list.present, list);
-    let security = own.group_identity_security_related_information;
-    put_type4(flat, e, security)
-}
-
-// How many groups of a list the flat form shows.
-fn shown_of(present: bool, count: usize) -> usize
-    ensures { (result ≡ shown present count) × (result ≤ 63) }
-{
-    if present { at_most_63(count) } else { 0 }
-}
-
-pub(crate) fn shown_uplinks(present: bool, list: OptionalUplinks) -> usize
-    ensures { (result ≡ shown present list.count) × (result ≤ 63) × (length list.groups ≡ 63) }
-{
-    shown_of(present, list.count)
-}
-
-pub(crate) fn shown_downlinks(present: bool, list: OptionalDownlinks) -> usize
-    ensures { (result ≡ shown present list.count) × (result ≤ 63) × (length list.groups ≡ 63) }
-{
-    shown_of(present, list.count)
+impl Flat for DAttachDetachGroupIdentity {
+    fn fill(self, flat: &mut [u8], skipped: usize) -> bool {
+        let list = &self.group_identity_downlink;
+        let groups = shown_of(list.present, list.count, &list.groups);
+        if flat.len() < 108 + 56 * groups {
+            return false;
+        }
+        let a = put_attach_detach_head(
+            flat,
+            skipped,
+            self.group_identity_report,
+            self.group_identity_acknowledgement_request,
+            self.group_identity_attach_detach_mode,
+        );
+        let b = put_type3(flat, a, self.proprietary);
+        let d = put_type3(flat, b, self.group_report_response);
+        let e = put_list(flat, d, list.present, list.count, &list.groups);
+        put_type4(flat, e, self.group_identity_security_related_information);
+        true
+    }
 }

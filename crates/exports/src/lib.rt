@@ -5,86 +5,62 @@
 pub mod flat;
 
 ghost use Rattle.std.specs.Prelude.{◌≡◌, ◌≤◌};
-ghost use Rattle.messages.specs.Calls.{demand, accept, attach_detach, message_of, reading};
-ghost use Rattle.messages.specs.Head.{u_location_update_demand_type, d_location_update_accept_type, d_attach_detach_group_identity_type};
-ghost use Rattle.messages.specs.Calls.{called};
-ghost use Rattle.exports.specs.Flat.{read_result, read_buffer};
-ghost use Rattle.exports.specs.Rewrite.{writing_result, rewrite_result, rewrite_octets};
+ghost use Rattle.messages.specs.Calls.{message_of, reading, called};
+ghost use Rattle.exports.specs.Flat.{numbered, read_result, read_buffer};
+ghost use Rattle.exports.specs.Rewrite.{rewrite_result, rewrite_octets};
 
 use bits::bitbuffer::Cursor;
 use bits::pdu_parse_error::PduParseErr;
-use flat::{put_accept, put_attach_detach, put_demand, shown_downlinks, shown_uplinks};
-use message_writers::{write_accept, write_attach_detach, write_demand};
+use flat::Flat;
+use message_writers::{PduWriter, write_as};
 use messages::d_attach_detach_group_identity::DAttachDetachGroupIdentity;
 use messages::d_location_update_accept::DLocationUpdateAccept;
 use messages::u_location_update_demand::ULocationUpdateDemand;
-use messages::{ACCEPT, ATTACH_DETACH, DEMAND, SKIPPING, STRICT, Writing, is_good_call};
+use messages::{ACCEPT, ATTACH_DETACH, DEMAND, SKIPPING, STRICT, is_good_call};
 
-// Reads a demand in a window that passed question 1 into a buffer.
-fn demand_into(octets: &[u8], c: Cursor, skipping: bool, flat: &mut [u8]) -> u64
-    requires { (c.at ≤ c.end) × (c.end ≤ 32768) }
-    ensures result { result ≡ read_result demand (called demand skipping octets.now c.at c.end) flat.old }
-    ensures buffer { flat.new ≡ read_buffer demand (called demand skipping octets.now c.at c.end) flat.old }
+// A call's answer: 64 × the bits consumed or written, or the refusal.
+type Bits = Result<u64, PduParseErr>;
+
+// The answer as one number.
+fn numbered(r: Bits) -> u64
+    ensures { result ≡ numbered r }
 {
-    let a = ULocationUpdateDemand::from_bitbuf(c, octets, skipping);
-    let v = a.verdict;
-    let Ok((n, c1)) = v else {
-        return v.unwrap_err().number() as u64;
-    };
-    let own = a.record;
-    let location = own.group_identity_location_demand;
-    let value = location.value;
-    let list = value.group_identity_uplink;
-    let groups = shown_uplinks(location.present & list.present, list);
-    if flat.len() < 371 + 46 * groups {
-        return PduParseErr::WindowTooShort.number() as u64;
+    match r {
+        Ok(bits) => bits,
+        Err(e) => e.number() as u64,
     }
-    put_demand(flat, n, own);
-    64 * (c1.at - c.at) as u64
 }
 
-// Reads an accept in a window that passed question 1 into a buffer.
-fn accept_into(octets: &[u8], c: Cursor, skipping: bool, flat: &mut [u8]) -> u64
+// Reads a message in a window that passed question 1 into a buffer.
+fn read_into<M: Flat>(octets: &[u8], c: Cursor, skipping: bool, flat: &mut [u8]) -> Bits
     requires { (c.at ≤ c.end) × (c.end ≤ 32768) }
-    ensures result { result ≡ read_result accept (called accept skipping octets.now c.at c.end) flat.old }
-    ensures buffer { flat.new ≡ read_buffer accept (called accept skipping octets.now c.at c.end) flat.old }
+    ensures result { numbered result ≡ read_result (message_of M.TYPE) (called (message_of M.TYPE) skipping octets.now c.at c.end) flat.old }
+    ensures buffer { flat.new ≡ read_buffer (message_of M.TYPE) (called (message_of M.TYPE) skipping octets.now c.at c.end) flat.old }
 {
-    let a = DLocationUpdateAccept::from_bitbuf(c, octets, skipping);
-    let v = a.verdict;
-    let Ok((n, c1)) = v else {
-        return v.unwrap_err().number() as u64;
-    };
-    let own = a.record;
-    let location = own.group_identity_location_accept;
-    let value = location.value;
-    let list = value.group_identity_downlink;
-    let groups = shown_downlinks(location.present & list.present, list);
-    if flat.len() < 245 + 56 * groups {
-        return PduParseErr::WindowTooShort.number() as u64;
+    let a = M::from_bitbuf(c, octets, skipping);
+    let (n, c1) = a.verdict?;
+    if a.record.fill(flat, n) {
+        return Ok(64 * (c1.at - c.at) as u64);
     }
-    put_accept(flat, n, own);
-    64 * (c1.at - c.at) as u64
+    Err(PduParseErr::WindowTooShort)
 }
 
-// Reads an attach/detach in a window that passed question 1 into a buffer.
-fn attach_detach_into(octets: &[u8], c: Cursor, skipping: bool, flat: &mut [u8]) -> u64
-    requires { (c.at ≤ c.end) × (c.end ≤ 32768) }
-    ensures result { result ≡ read_result attach_detach (called attach_detach skipping octets.now c.at c.end) flat.old }
-    ensures buffer { flat.new ≡ read_buffer attach_detach (called attach_detach skipping octets.now c.at c.end) flat.old }
+// The reading call, by the message.
+fn read_call(message: u64, wanted: u64, octets: &[u8], c: Cursor, flat: &mut [u8]) -> Bits
+    ensures result { numbered result ≡ read_result (message_of message) (reading message wanted octets.now c.at c.end) flat.old }
+    ensures buffer { flat.new ≡ read_buffer (message_of message) (reading message wanted octets.now c.at c.end) flat.old }
 {
-    let a = DAttachDetachGroupIdentity::from_bitbuf(c, octets, skipping);
-    let v = a.verdict;
-    let Ok((n, c1)) = v else {
-        return v.unwrap_err().number() as u64;
-    };
-    let own = a.record;
-    let list = own.group_identity_downlink;
-    let groups = shown_downlinks(list.present, list);
-    if flat.len() < 108 + 56 * groups {
-        return PduParseErr::WindowTooShort.number() as u64;
+    if is_good_call(octets.len(), c.at, c.end, message, wanted) {
+        let skipping = wanted == SKIPPING;
+        if message == DEMAND {
+            return read_into::<ULocationUpdateDemand>(octets, c, skipping, flat);
+        }
+        if message == ACCEPT {
+            return read_into::<DLocationUpdateAccept>(octets, c, skipping, flat);
+        }
+        return read_into::<DAttachDetachGroupIdentity>(octets, c, skipping, flat);
     }
-    put_attach_detach(flat, n, own);
-    64 * (c1.at - c.at) as u64
+    Err(PduParseErr::BadCall)
 }
 
 // A reading call into a flat buffer: 64 × the bits consumed, plus the refusal's number.
@@ -99,115 +75,43 @@ pub fn tetra_mm_read(
     ensures result { result ≡ read_result (message_of message) (reading message wanted octets.now first end) flat.old }
     ensures buffer { flat.new ≡ read_buffer (message_of message) (reading message wanted octets.now first end) flat.old }
 {
-    let f = first as usize;
-    let e = end as usize;
-    if is_good_call(octets.len(), f, e, message, wanted) {
-        let skipping = wanted == SKIPPING;
-        let c = Cursor { at: f, end: e };
-        if message == DEMAND {
-            return demand_into(octets, c, skipping, flat);
-        }
-        if message == ACCEPT {
-            return accept_into(octets, c, skipping, flat);
-        }
-        return attach_detach_into(octets, c, skipping, flat);
-    }
-    PduParseErr::BadCall.number() as u64
+    let c = Cursor {
+        at: first as usize,
+        end: end as usize,
+    };
+    numbered(read_call(message, wanted, octets, c, flat))
 }
 
-// 64 × the bits written, plus the refusal's number.
-fn result_of(w: Writing) -> u64
-    requires { w.written ≤ 32768 }
-    ensures { result ≡ writing_result w }
+// Rewrites a message: read in one window, `c`, and written to another one, `to`.
+fn rewrite<M: PduWriter>(octets: &[u8], c: Cursor, out: &mut [u8], to: Cursor) -> Bits
+    ensures result { numbered result ≡ rewrite_result M.TYPE octets.now c.at c.end out.old to.at to.end }
+    ensures octets { out.new ≡ rewrite_octets M.TYPE octets.now c.at c.end out.old to.at to.end }
 {
-    match w.verdict {
-        Ok(()) => 64 * w.written as u64,
-        Err(e) => e.number() as u64,
+    if is_good_call(octets.len(), c.at, c.end, M::TYPE, STRICT) {
+        let a = M::from_bitbuf(c, octets, false);
+        a.verdict?;
+        let w = write_as(out, to.at, to.end, a.record);
+        w.verdict?;
+        return Ok(64 * w.written as u64);
     }
+    Err(PduParseErr::BadCall)
 }
 
-// Rewrites a demand.
-fn rewrite_demand(
-    octets: &[u8],
-    first: usize,
-    end: usize,
-    out: &mut [u8],
-    out_first: usize,
-    out_end: usize,
-) -> u64
-    ensures result { result ≡ rewrite_result u_location_update_demand_type octets.now first end out.old out_first out_end }
-    ensures octets { out.new ≡ rewrite_octets u_location_update_demand_type octets.now first end out.old out_first out_end }
+// The rewriting, by the message.
+fn rewrite_call(message: u64, octets: &[u8], c: Cursor, out: &mut [u8], to: Cursor) -> Bits
+    ensures result { numbered result ≡ rewrite_result message octets.now c.at c.end out.old to.at to.end }
+    ensures octets { out.new ≡ rewrite_octets message octets.now c.at c.end out.old to.at to.end }
 {
-    if is_good_call(octets.len(), first, end, DEMAND, STRICT) {
-        let c = Cursor {
-            at: first,
-            end: end,
-        };
-        let a = ULocationUpdateDemand::from_bitbuf(c, octets, false);
-        let v = a.verdict;
-        let Ok(_) = v else {
-            return v.unwrap_err().number() as u64;
-        };
-        let own = a.record;
-        return result_of(write_demand(out, out_first, out_end, own));
+    if message == DEMAND {
+        return rewrite::<ULocationUpdateDemand>(octets, c, out, to);
     }
-    PduParseErr::BadCall.number() as u64
-}
-
-// Rewrites an accept.
-fn rewrite_accept(
-    octets: &[u8],
-    first: usize,
-    end: usize,
-    out: &mut [u8],
-    out_first: usize,
-    out_end: usize,
-) -> u64
-    ensures result { result ≡ rewrite_result d_location_update_accept_type octets.now first end out.old out_first out_end }
-    ensures octets { out.new ≡ rewrite_octets d_location_update_accept_type octets.now first end out.old out_first out_end }
-{
-    if is_good_call(octets.len(), first, end, ACCEPT, STRICT) {
-        let c = Cursor {
-            at: first,
-            end: end,
-        };
-        let a = DLocationUpdateAccept::from_bitbuf(c, octets, false);
-        let v = a.verdict;
-        let Ok(_) = v else {
-            return v.unwrap_err().number() as u64;
-        };
-        let own = a.record;
-        return result_of(write_accept(out, out_first, out_end, own));
+    if message == ACCEPT {
+        return rewrite::<DLocationUpdateAccept>(octets, c, out, to);
     }
-    PduParseErr::BadCall.number() as u64
-}
-
-// Rewrites an attach/detach.
-fn rewrite_attach_detach(
-    octets: &[u8],
-    first: usize,
-    end: usize,
-    out: &mut [u8],
-    out_first: usize,
-    out_end: usize,
-) -> u64
-    ensures result { result ≡ rewrite_result d_attach_detach_group_identity_type octets.now first end out.old out_first out_end }
-    ensures octets { out.new ≡ rewrite_octets d_attach_detach_group_identity_type octets.now first end out.old out_first out_end }
-{
-    if is_good_call(octets.len(), first, end, ATTACH_DETACH, STRICT) {
-        let c = Cursor {
-            at: first,
-            end: end,
-        };
-        let a = DAttachDetachGroupIdentity::from_bitbuf(c, octets, false);
-        let v = a.verdict;
-        let Ok(_) = v else {
-            return v.unwrap_err().number() as u64;
-        };
-        let own = a.record;
-        return result_of(write_attach_detach(out, out_first, out_end, own));
+    if message == ATTACH_DETACH {
+        return rewrite::<DAttachDetachGroupIdentity>(octets, c, out, to);
     }
-    PduParseErr::BadCall.number() as u64
+    Err(PduParseErr::BadCall)
 }
 
 // A rewriting: the strict reading in one window, and its record written to a second; 64 × the bits written, plus the number of
@@ -224,18 +128,13 @@ pub fn tetra_mm_rewrite(
     ensures result { result ≡ rewrite_result message octets.now first end out.old out_first out_end }
     ensures octets { out.new ≡ rewrite_octets message octets.now first end out.old out_first out_end }
 {
-    let f = first as usize;
-    let e = end as usize;
-    let g = out_first as usize;
-    let h = out_end as usize;
-    if message == DEMAND {
-        return rewrite_demand(octets, f, e, out, g, h);
-    }
-    if message == ACCEPT {
-        return rewrite_accept(octets, f, e, out, g, h);
-    }
-    if message == ATTACH_DETACH {
-        return rewrite_attach_detach(octets, f, e, out, g, h);
-    }
-    PduParseErr::BadCall.number() as u64
+    let c = Cursor {
+        at: first as usize,
+        end: end as usize,
+    };
+    let to = Cursor {
+        at: out_first as usize,
+        end: out_end as usize,
+    };
+    numbered(rewrite_call(message, octets, c, out, to))
 }

@@ -1,11 +1,11 @@
 // D-ATTACH/DETACH GROUP IDENTITY (EN 300 392-2, clause 16.9.2.1).
-ghost use Rattle.std.specs.Prelude.{◌≡◌, refl};
+ghost use Rattle.std.specs.Prelude.{◌≡◌};
 ghost use Rattle.bits.specs.Placed.{at, as_read};
 ghost use Rattle.elements.specs.Kinds.{identifier_of, content};
 ghost use Rattle.messages.specs.AttachDetach.{attach_detach_head};
 ghost use Rattle.messages.specs.Head.{d_attach_detach_group_identity_type};
 ghost use Rattle.messages.specs.Calls.{of_attach_detach};
-ghost use Rattle.messages.specs.MessageAnswers.{attach_detach_from};
+ghost use Rattle.messages.specs.MessageAnswers.{own_attach_detach, attach_detach_from};
 
 use crate::d_location_update_accept::DLocationUpdateAccept;
 use crate::u_location_update_demand::ULocationUpdateDemand;
@@ -131,7 +131,7 @@ impl OwnRecord for DAttachDetachGroupIdentity {
 impl Pdu for DAttachDetachGroupIdentity {
     ghost TYPE = { d_attach_detach_group_identity_type };
 
-    ghost is_own = { record { is = λ h vs. refl } };
+    ghost is_own = { own_attach_detach };
 
     const TYPE: u64 = crate::ATTACH_DETACH;
 

@@ -1,12 +1,12 @@
 // D-LOCATION UPDATE ACCEPT (EN 300 392-2, clause 16.9.2.7).
-ghost use Rattle.std.specs.Prelude.{◌≡◌, refl, true};
+ghost use Rattle.std.specs.Prelude.{◌≡◌, true};
 ghost use Rattle.bits.specs.Placed.{at, as_read};
 ghost use Rattle.elements.specs.Kinds.{identifier_of, content};
 ghost use Rattle.messages.specs.Format.{body};
 ghost use Rattle.messages.specs.Accept.{accept_options_of, accept_options, no_accept_options, accept_options_if, accept_head};
 ghost use Rattle.messages.specs.Head.{d_location_update_accept_type};
 ghost use Rattle.messages.specs.Calls.{of_accept, accept_format};
-ghost use Rattle.messages.specs.MessageAnswers.{accept_from, accept_answer};
+ghost use Rattle.messages.specs.MessageAnswers.{own_accept, accept_from, accept_answer};
 
 use crate::d_attach_detach_group_identity::DAttachDetachGroupIdentity;
 use crate::u_location_update_demand::ULocationUpdateDemand;
@@ -277,7 +277,7 @@ impl OwnRecord for DLocationUpdateAccept {
 impl Pdu for DLocationUpdateAccept {
     ghost TYPE = { d_location_update_accept_type };
 
-    ghost is_own = { record { is = λ h vs. refl } };
+    ghost is_own = { own_accept };
 
     const TYPE: u64 = crate::ACCEPT;
 

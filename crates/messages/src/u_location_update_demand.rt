@@ -1,12 +1,12 @@
 // U-LOCATION UPDATE DEMAND (EN 300 392-2, clause 16.9.3.4).
-ghost use Rattle.std.specs.Prelude.{◌≡◌, refl, true, option_map};
+ghost use Rattle.std.specs.Prelude.{◌≡◌, true, option_map};
 ghost use Rattle.bits.specs.Placed.{at, as_read};
 ghost use Rattle.elements.specs.Kinds.{identifier_of, content};
 ghost use Rattle.messages.specs.Format.{body};
 ghost use Rattle.messages.specs.Demand.{halved, demand_options_of, demand_options, no_demand_options, demand_options_if, demand_head};
 ghost use Rattle.messages.specs.Head.{u_location_update_demand_type};
 ghost use Rattle.messages.specs.Calls.{of_demand, demand_format};
-ghost use Rattle.messages.specs.MessageAnswers.{demand_from, demand_answer};
+ghost use Rattle.messages.specs.MessageAnswers.{own_demand, demand_from, demand_answer};
 
 use crate::d_attach_detach_group_identity::DAttachDetachGroupIdentity;
 use crate::d_location_update_accept::DLocationUpdateAccept;
@@ -269,7 +269,7 @@ impl OwnRecord for ULocationUpdateDemand {
 impl Pdu for ULocationUpdateDemand {
     ghost TYPE = { u_location_update_demand_type };
 
-    ghost is_own = { record { is = λ h vs. refl } };
+    ghost is_own = { own_demand };
 
     const TYPE: u64 = crate::DEMAND;
 

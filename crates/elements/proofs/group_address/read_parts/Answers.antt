@@ -1,5 +1,4 @@
 -- `elements::group_address::read_parts` meets its contract: the parts of a form, one after the other.
-use Rattle.std.specs.Prelude.{option_map}
 use Rattle.bits.specs.Reader.{word}
 use Rattle.bits.specs.ReaderLaws.{local·rules}
 use Rattle.bits.specs.PlacedLaws.{so, from, handed_up, step, stop, done}

@@ -1,6 +1,5 @@
 -- `elements::typed_pdu_fields::read_list_front` meets its contract: by the laws of a slot, and of an element that begins with its number of
 -- entries.
-use Rattle.std.specs.Prelude.{◌≤◌, ◌<◌}
 use Rattle.std.proofs.Common.{arith}
 use Rattle.bits.specs.Reader.{got, ◌>>=◌, word}
 use Rattle.bits.specs.ReaderLaws.{local·rules}

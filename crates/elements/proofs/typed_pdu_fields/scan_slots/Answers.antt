@@ -1,15 +1,13 @@
 -- `elements::typed_pdu_fields::scan_slots` meets its contract: by the laws of generic slots, one at a turn.
 use Rattle.std.specs.Prelude.{◌+◌, ◌≡◌, ◌∷◌, drop, slice_index_or}
-use Rattle.std.proofs.Common.{rules, arith, refl, sym, ◌∙◌}
+use Rattle.std.proofs.Common.{arith, sym, ◌∙◌}
 use Rattle.bits.specs.Placed.{placed}
 use Rattle.bits.specs.PlacedLaws.{Gives, by, from, refused_by, told}
-use Rattle.bits.specs.PlacedTimes.{alike}
 use Rattle.elements.proofs.Verdicts.{answer}
 use Rattle.elements.proofs.PlacedTable.{skip-most, generic_slot_tail, filled, resumed_end, resumed_unskipped, resumed_broken, resumed-on}
 use Rattle.elements.specs.Table.{is_listed}
 use Rattle.elements.specs.Kinds.{identifier_of}
 use Rattle.elements.specs.Rows.{rows_of, no_generics}
-use Rattle.elements.specs.declared.typed_pdu_fields.Row.{Row}
 use Rattle.elements.proofs.Parts.{behind-most, no_slots_lem, no_behind, part-read}
 use Rattle.elements.specs.Answers.{slots_answer}
 use Rattle.elements.proofs.Tables.{no_row, next-row, no-more_rows}

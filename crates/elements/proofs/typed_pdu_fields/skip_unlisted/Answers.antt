@@ -1,12 +1,11 @@
 -- `elements::typed_pdu_fields::skip_unlisted` meets its contract: by the laws of the elements that are passed, one at a turn.
 use Rattle.std.specs.Prelude.{refl}
-use Rattle.std.proofs.Common.{rules, arith, sym, ◌∙◌, ap}
+use Rattle.std.proofs.Common.{rules, arith, sym, ◌∙◌}
 use Rattle.bits.specs.Reader.{word}
 use Rattle.bits.specs.ReaderLaws.{local·rules}
 use Rattle.bits.specs.Placed.{placed}
 use Rattle.bits.specs.PlacedLaws.{Gives, by, from, handed_up, step, stop, Fact, fact}
 use Rattle.bits.specs.PlacedTimes.{alike}
-use Rattle.elements.specs.Answers.{opening}
 use Rattle.elements.proofs.PlacedTable.{body, body_tail, body-on, tally-start, tally-outside, tally-ends, tally-listed, tally-on}
 use Rattle.elements.proofs.typed_pdu_fields.skip_unlisted.Goals as goal
 use Rattle.elements.proofs.typed_pdu_fields.skip_unlisted.Goals.{Else-is_listed, In_ok-place}

@@ -1,19 +1,21 @@
--- `exports::flat::put_field` meets its contract. Assumes nothing.
+-- `exports::flat::put_field` meets its contract: the presence octet, and the number's octets copied behind it.
 use native.Mathlib.Omega.{arith}
-use mathlib.Core.Path.{◌≡◌, refl, ◌∙◌}
-use Prim.Native.Nat.{suc, ◌+◌}
-use lib.ListN.{length-set}
-use Rattle.exports.specs.FlatLaws.{put}
+use mathlib.Core.Path.{◌≡◌, refl}
+use Prim.Native.Nat.{suc, ◌+◌, ◌-◌, ◌≤◌}
+use mathlib.Core.Bool.{cond}
+use lib.ListN.{length, length-set, set}
+use Rattle.std.specs.Int.{w64, to_be_bytes}
+use Rattle.bits.specs.Bits.{bit}
+use Rattle.exports.specs.FlatLaws.{put, copied}
 use Rattle.exports.proofs.flat.put_field.Goals as goal
-
-pub put_number-requires : goal.put_number-requires
-put_number-requires c =
-    simp length-set (omega arith)
-
-pub shape_of-flat : goal.shape_of-flat
-shape_of-flat c = rw c.put_number.ensures (simp length-set refl)
+use Rattle.exports.proofs.flat.put_field.Goals.{then-present, else-present}
 
 pub returns : goal.returns
 returns c =
-    let next : c.args.at + 1 ≡ suc c.args.at = omega arith in
-    put (c.put_number.ensures ∙ rw (c.flag.ensures, c.kept.ensures, next)) refl
+    let a = c.args in
+    let f = set a.flat.now a.at (bit a.present) in
+    let next : a.at + 1 ≡ suc a.at = omega arith in
+    let size : a.at + 9 - (a.at + 1) ≡ 8 = omega arith in
+    let shown : c.if-present.shown ≡ cond a.present a.value 0 = elim c.if-present.branch [ then-present w ↦ rw w.if-present.true w.shown-is | else-present w ↦ rw w.if-present.false w.shown-is ] in
+    let room : a.at + 1 + 8 ≤ length f = rw (length-set a.flat.now a.at (bit a.present)) (omega arith) in
+    put (rw (size, c.copy_from_slice.ensures.after, c.to_be_bytes.ensures, shown, ← next) (copied f (a.at + 1) 8 (to_be_bytes w64 (cond a.present a.value 0)) refl room)) refl

@@ -1,5 +1,5 @@
 -- `elements::group_identity_downlink::GroupIdentityDownlink::from_bitbuf` meets its contract: its parts, one after the other.
-use Rattle.std.specs.Prelude.{option_map, Some, None}
+use Rattle.std.specs.Prelude.{Some, None}
 use Rattle.std.proofs.Common.{sym}
 use Rattle.bits.specs.Reader.{word}
 use Rattle.bits.specs.ReaderLaws.{local·rules, local_tail, optional-local}

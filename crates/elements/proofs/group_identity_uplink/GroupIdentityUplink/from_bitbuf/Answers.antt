@@ -1,5 +1,4 @@
 -- `elements::group_identity_uplink::GroupIdentityUplink::from_bitbuf` meets its contract: its parts, one after the other.
-use Rattle.std.specs.Prelude.{option_map}
 use Rattle.std.proofs.Common.{sym}
 use Rattle.bits.specs.Reader.{word}
 use Rattle.bits.specs.ReaderLaws.{local·rules, local_tail}

@@ -1,7 +1,0 @@
--- `exports::flat::put_downlink` meets its contract. Assumes nothing.
-use Rattle.exports.specs.FlatLaws.{◌⨟◌}
-use Rattle.exports.proofs.flat.put_downlink.Goals as goal
-
-pub returns : goal.returns
-returns c =
-    c.put_flag-a.ensures ⨟ c.put_attachment-b.ensures ⨟ c.put_field-d.ensures ⨟ c.put_address.ensures
