@@ -1,21 +1,19 @@
 -- A reading call's answer as it is measured, by the verdict of the message's reader; 64 times the bits consumed fit a word.
-use Rattle.std.specs.Prelude.{ℕ, ◌-◌, ◌*◌, ◌≤◌, ◌<◌, ◌^◌, ◌≡◌, refl, Bool, true, false, cond, List, length, eqb}
+use Rattle.std.specs.Prelude.{ℕ, ◌-◌, ◌*◌, ◌≤◌, ◌<◌, ◌^◌, ◌≡◌, refl, Bool, true, false, cond, List, length, eqb, Ok, Err}
 use native.Mathlib.Omega.{arith}
 use Rattle.std.proofs.Common.{ap, ◌∙◌}
-use Rattle.bits.specs.PduParseError.{bad_call}
+use Rattle.bits.specs.PduParseError.{bad_call, number_of}
 use Rattle.bits.specs.Reader.{Answer, got, refused}
-use Rattle.bits.specs.Placed.{Placed, at, refusal}
+use Rattle.bits.specs.Placed.{at}
 use Rattle.bits.specs.declared.bitbuffer.Cursor.{Cursor}
-use Rattle.elements.specs.Answers.{as_skipped}
+use Rattle.bits.specs.declared.pdu_parse_error.PduParseErr.{PduParseErr}
 use Rattle.elements.specs.Table.{Counted}
-use Rattle.elements.specs.declared.typed_pdu_fields.Skipped.{Skipped}
-use Rattle.elements.specs.declared.typed_pdu_fields.Skipped.TheVariants as S
-use Rattle.messages.specs.Calls.{message_of, read_message, good_call, window_of, no_reading, reading_of, reading}
-use Rattle.messages.proofs.PlacedCalls.{Own, taken, call_taken, call_refused, bad_call_lem, place_inside}
-use Rattle.messages.specs.Calls.{accepted, called}
+use Rattle.messages.specs.Calls.{message_of, read_message, good_call, window_of, no_reading, reading_of, reading, accepted, called}
+use Rattle.messages.specs.MessageAnswers.{message_answer, Own}
+use Rattle.messages.proofs.PlacedCalls.{taken, call_taken, call_refused, bad_call_lem, place_inside}
+use Rattle.messages.specs.declared.MessageRead.{MessageRead}
 use Rattle.messages.specs.declared.Record.{Record}
 use Rattle.messages.specs.declared.Reading.{Reading}
-use Rattle.messages.specs.declared.Verdict.TheVariants.{Accepted}
 use Rattle.measure.specs.Measured.{consumed_and_refusal}
 
 module _ (m how : ℕ) (os : List ℕ) (first end : ℕ) where
@@ -32,39 +30,40 @@ module _ (m how : ℕ) (os : List ℕ) (first end : ℕ) where
       go true = answered (length (window_of os first end)) (read_message (message_of m) (eqb how 1) (window_of os first end))
       go false = omega arith
 
-  few-consumed : {r : Reading} → r ≡ reading m how os first end → r.verdict ≡ Accepted → 64 * r.consumed < 2 ^ 64
+  -- what a good call's reader tells, if it reads up to k
+  pub record Measured (k : Cursor) : Type 0 where
+    pub on : first ≤ k.at
+    pub few : 64 * (k.at - first) < 2 ^ 64
+    pub answer : 64 * (k.at - first) ≡ consumed_and_refusal (reading m how os first end)
+
+  few-consumed : {r : Reading} → r ≡ reading m how os first end → r.verdict ≡ Ok tt → 64 * r.consumed < 2 ^ 64
   few-consumed {r} e v =
       let inside : r.consumed ≤ r.place = rw e consumed-inside in
       let place = place_inside m how os first end e v in
       omega arith
 
-of_read : (r : Reading) → r.verdict ≡ Accepted → 64 * r.consumed ≡ consumed_and_refusal r
+of_read : (r : Reading) → r.verdict ≡ Ok tt → 64 * r.consumed ≡ consumed_and_refusal r
 of_read r v = rw v (omega arith)
 
-of_refused : (n first : ℕ) → n ≡ consumed_and_refusal (no_reading n first)
-of_refused n first = omega arith
+of_refused : (e : PduParseErr) (first : ℕ) → number_of e ≡ consumed_and_refusal (no_reading e first)
+of_refused e first = omega arith
 
 -- a message whose reader's answer holds a verdict and its own record
-module _ (m : ℕ) {X R : Type 0} {f : Placed (Counted Record) → X} {verdict : X → Skipped} {own : X → R} {of : R → Record} (d : Own (message_of m) f verdict own of)
-    (how : ℕ) (os : List ℕ) (first end : ℕ) where
-  pub measured_bad : good_call m how (length os) first end ≡ false → bad_call ≡ consumed_and_refusal (reading m how os first end)
+module _ (m : ℕ) {R : Type 0} {own : Record → R} {of : R → Record} (o : Own (message_of m) own of) (how : ℕ) (os : List ℕ) (first end : ℕ) where
+  pub measured_bad : good_call m how (length os) first end ≡ false → number_of bad_call ≡ consumed_and_refusal (reading m how os first end)
   measured_bad g = of_refused bad_call first ∙ ap consumed_and_refusal (bad_call_lem m how os first end g)
 
-  module _ (good : good_call m how (length os) first end ≡ true) {y : X} (e : y ≡ f (at (read_message (message_of m) (eqb how 1)) os (record { at = first; end = end }))) where
-    pub measured-refused : {i n : ℕ} → verdict y ≡ S.Refused i → n ≡ refusal (as_skipped (verdict y)) → n ≡ consumed_and_refusal (reading m how os first end)
-    measured-refused {n = n} v number = of_refused n first ∙ ap consumed_and_refusal (call_refused m how os first end d good e v number)
+  module _ (good : good_call m how (length os) first end ≡ true) {y : MessageRead R}
+      (e : y ≡ message_answer own (at (read_message (message_of m) (eqb how 1)) os (record { at = first; end = end }))) where
+    pub measured-refused : {n : PduParseErr} → y.verdict ≡ Err n → number_of n ≡ consumed_and_refusal (reading m how os first end)
+    measured-refused {n} v = of_refused n first ∙ ap consumed_and_refusal (call_refused m how os first end o good e v)
 
-    pub record Measured (k : Cursor) : Type 0 where
-      pub on : first ≤ k.at
-      pub few : 64 * (k.at - first) < 2 ^ 64
-      pub answer : 64 * (k.at - first) ≡ consumed_and_refusal (reading m how os first end)
-
-    pub measured-read : {n : ℕ} {k : Cursor} → verdict y ≡ S.Count n k → Measured k
+    pub measured-read : {n : ℕ} {k : Cursor} → y.verdict ≡ Ok (n, k) → Measured m how os first end k
     measured-read {n} {k} v =
-        let r : Reading = accepted first n k (of (own y)) in
-        let is : r ≡ reading m how os first end = call_taken m how os first end d good e v in
+        let r : Reading = accepted first n k (of y.«record») in
+        let is : r ≡ reading m how os first end = call_taken m how os first end o good e v in
         record {
-          on = (taken (message_of m) d (eqb how 1) os (record { at = first; end = end }) e v).on;
+          on = (taken (message_of m) o (eqb how 1) os (record { at = first; end = end }) e v).on;
           few = few-consumed m how os first end is refl;
           answer = of_read r refl ∙ ap consumed_and_refusal is;
         }

@@ -1,10 +1,6 @@
 -- A message written over and over: the octets behind the last writing call, and the number of bits that it wrote.
-use Prim.Native.Nat.{ℕ, zero, suc, ◌+◌}
-use native.Mathlib.Omega.{arith}
-use Rattle.std.specs.Prelude.{◌≡◌}
-use Rattle.std.proofs.Math.Path.{refl, ap}
-use Rattle.std.proofs.Common.{◌∙◌}
-use mathlib.Core.List.{List}
+use Rattle.std.specs.Prelude.{ℕ, zero, suc, ◌+◌, ◌≡◌, refl, List}
+use Rattle.std.proofs.Common.{ap, ◌∙◌, add-one}
 use Rattle.messages.specs.Calls.{writing, octets_written}
 use Rattle.messages.specs.declared.Record.{Record}
 use Rattle.messages.specs.declared.Writing.{Writing}
@@ -32,5 +28,4 @@ module _ (m first end : ℕ) (r : Record) (os₀ : List ℕ) where
       → Turned m first end r (n + 1) os₀ w.written os'
   unfolding repeated
   turned n t e o =
-      let s : n + 1 ≡ suc n = omega arith in
-      rw s (record { bits = ap (λ (x : Writing). x.written) e ∙ ap (λ (os : List ℕ). (writing m os first end r).written) t.octets; octets = o ∙ ap (λ (os : List ℕ). octets_written m os first end r) t.octets })
+      rw (add-one n) (record { bits = ap (λ (x : Writing). x.written) e ∙ ap (λ (os : List ℕ). (writing m os first end r).written) t.octets; octets = o ∙ ap (λ (os : List ℕ). octets_written m os first end r) t.octets })

@@ -12,11 +12,11 @@ ghost use Rattle.measure.specs.Repeated.{repeated};
 
 use bits::bitbuffer::Cursor;
 use bits::pdu_parse_error::PduParseErr;
-use message_writers::{write_accept, write_attach_detach, write_demand};
+use message_writers::{PduWriter, write_as};
 use messages::d_attach_detach_group_identity::DAttachDetachGroupIdentity;
 use messages::d_location_update_accept::DLocationUpdateAccept;
 use messages::u_location_update_demand::ULocationUpdateDemand;
-use messages::{ACCEPT, ATTACH_DETACH, DEMAND, Record, SKIPPING, is_good_call, read};
+use messages::{Pdu, Record, SKIPPING, is_good_call, read};
 
 // The value, or the refusal's number.
 #[unsafe(no_mangle)]
@@ -51,42 +51,32 @@ pub extern "C" fn measure_write(
 
 // A message read: 64 times the bits consumed plus the refusal's number. The record is made and left behind: each message's reader
 // has a second caller, `measure_record`, and so is a function of its own in the machine code.
+fn measured<M: Pdu>(octets: &[u8], first: usize, end: usize, wanted: u64) -> u64
+    ensures { result ≡ consumed_and_refusal (reading M.TYPE wanted octets.now first end) }
+{
+    if is_good_call(octets.len(), first, end, M::TYPE, wanted) {
+        let c = Cursor { at: first, end };
+        let a = M::from_bitbuf(c, octets, wanted == SKIPPING);
+        return match a.verdict {
+            Ok((_, c1)) => 64 * (c1.at - first) as u64,
+            Err(e) => e.number() as u64,
+        };
+    }
+    PduParseErr::BadCall.number() as u64
+}
+
 #[unsafe(no_mangle)]
 pub extern "C" fn measure_read_demand(octets: &[u8], first: usize, end: usize, wanted: u64) -> u64
     ensures { result ≡ consumed_and_refusal (reading u_location_update_demand_type wanted octets.now first end) }
 {
-    if is_good_call(octets.len(), first, end, DEMAND, wanted) {
-        let c = Cursor {
-            at: first,
-            end: end,
-        };
-        let a = ULocationUpdateDemand::from_bitbuf(c, octets, wanted == SKIPPING);
-        let v = a.verdict;
-        let Ok((_, c1)) = v else {
-            return v.unwrap_err().number() as u64;
-        };
-        return 64 * (c1.at - first) as u64;
-    }
-    PduParseErr::BadCall.number() as u64
+    measured::<ULocationUpdateDemand>(octets, first, end, wanted)
 }
 
 #[unsafe(no_mangle)]
 pub extern "C" fn measure_read_accept(octets: &[u8], first: usize, end: usize, wanted: u64) -> u64
     ensures { result ≡ consumed_and_refusal (reading d_location_update_accept_type wanted octets.now first end) }
 {
-    if is_good_call(octets.len(), first, end, ACCEPT, wanted) {
-        let c = Cursor {
-            at: first,
-            end: end,
-        };
-        let a = DLocationUpdateAccept::from_bitbuf(c, octets, wanted == SKIPPING);
-        let v = a.verdict;
-        let Ok((_, c1)) = v else {
-            return v.unwrap_err().number() as u64;
-        };
-        return 64 * (c1.at - first) as u64;
-    }
-    PduParseErr::BadCall.number() as u64
+    measured::<DLocationUpdateAccept>(octets, first, end, wanted)
 }
 
 #[unsafe(no_mangle)]
@@ -98,19 +88,7 @@ pub extern "C" fn measure_read_attach_detach(
 ) -> u64
     ensures { result ≡ consumed_and_refusal (reading d_attach_detach_group_identity_type wanted octets.now first end) }
 {
-    if is_good_call(octets.len(), first, end, ATTACH_DETACH, wanted) {
-        let c = Cursor {
-            at: first,
-            end: end,
-        };
-        let a = DAttachDetachGroupIdentity::from_bitbuf(c, octets, wanted == SKIPPING);
-        let v = a.verdict;
-        let Ok((_, c1)) = v else {
-            return v.unwrap_err().number() as u64;
-        };
-        return 64 * (c1.at - first) as u64;
-    }
-    PduParseErr::BadCall.number() as u64
+    measured::<DAttachDetachGroupIdentity>(octets, first, end, wanted)
 }
 
 // The record of a message read, from which the messages below are written.
@@ -124,11 +102,17 @@ pub extern "C" fn measure_record(
 ) -> Record
     ensures { result ≡ (reading message wanted octets.now first end).«record» }
 {
-    let a = read(octets, first, end, message, wanted);
-    a.record
+    read(octets, first, end, message, wanted).record
 }
 
 // A message written: the number of bits, 0 with a refusal.
+fn written<M: PduWriter>(d: M, octets: &mut [u8], first: usize, end: usize) -> u64
+    ensures bits { result ≡ (writing M.TYPE octets.old first end (M.of d)).written }
+    ensures octets { octets.new ≡ octets_written M.TYPE octets.old first end (M.of d) }
+{
+    write_as(octets, first, end, d).written as u64
+}
+
 #[unsafe(no_mangle)]
 pub extern "C" fn measure_write_demand(
     d: ULocationUpdateDemand,
@@ -139,8 +123,7 @@ pub extern "C" fn measure_write_demand(
     ensures bits { result ≡ (writing u_location_update_demand_type octets.old first end (of_demand d)).written }
     ensures octets { octets.new ≡ octets_written u_location_update_demand_type octets.old first end (of_demand d) }
 {
-    let w = write_demand(octets, first, end, d);
-    w.written as u64
+    written(d, octets, first, end)
 }
 
 #[unsafe(no_mangle)]
@@ -153,8 +136,7 @@ pub extern "C" fn measure_write_accept(
     ensures bits { result ≡ (writing d_location_update_accept_type octets.old first end (of_accept d)).written }
     ensures octets { octets.new ≡ octets_written d_location_update_accept_type octets.old first end (of_accept d) }
 {
-    let w = write_accept(octets, first, end, d);
-    w.written as u64
+    written(d, octets, first, end)
 }
 
 #[unsafe(no_mangle)]
@@ -167,11 +149,22 @@ pub extern "C" fn measure_write_attach_detach(
     ensures bits { result ≡ (writing d_attach_detach_group_identity_type octets.old first end (of_attach_detach d)).written }
     ensures octets { octets.new ≡ octets_written d_attach_detach_group_identity_type octets.old first end (of_attach_detach d) }
 {
-    let w = write_attach_detach(octets, first, end, d);
-    w.written as u64
+    written(d, octets, first, end)
 }
 
 // A message written `times` times, each time by a writing call: the number of bits that the last one wrote.
+fn writes<M: PduWriter>(d: M, octets: &mut [u8], first: usize, end: usize, times: usize) -> u64
+    ensures bits { result ≡ (repeated M.TYPE first end (M.of d) times octets.old).bits }
+    ensures octets { octets.new ≡ (repeated M.TYPE first end (M.of d) times octets.old).octets }
+{
+    let mut bits: u64 = 0;
+    for _ in 0..times {
+        let w = write_as(octets, first, end, d);
+        bits = w.written as u64;
+    }
+    bits
+}
+
 #[unsafe(no_mangle)]
 pub extern "C" fn measure_writes_demand(
     d: ULocationUpdateDemand,
@@ -183,12 +176,7 @@ pub extern "C" fn measure_writes_demand(
     ensures bits { result ≡ (repeated u_location_update_demand_type first end (of_demand d) times octets.old).bits }
     ensures octets { octets.new ≡ (repeated u_location_update_demand_type first end (of_demand d) times octets.old).octets }
 {
-    let mut bits: u64 = 0;
-    for _ in 0..times {
-        let w = write_demand(octets, first, end, d);
-        bits = w.written as u64;
-    }
-    bits
+    writes(d, octets, first, end, times)
 }
 
 #[unsafe(no_mangle)]
@@ -202,12 +190,7 @@ pub extern "C" fn measure_writes_accept(
     ensures bits { result ≡ (repeated d_location_update_accept_type first end (of_accept d) times octets.old).bits }
     ensures octets { octets.new ≡ (repeated d_location_update_accept_type first end (of_accept d) times octets.old).octets }
 {
-    let mut bits: u64 = 0;
-    for _ in 0..times {
-        let w = write_accept(octets, first, end, d);
-        bits = w.written as u64;
-    }
-    bits
+    writes(d, octets, first, end, times)
 }
 
 #[unsafe(no_mangle)]
@@ -221,10 +204,5 @@ pub extern "C" fn measure_writes_attach_detach(
     ensures bits { result ≡ (repeated d_attach_detach_group_identity_type first end (of_attach_detach d) times octets.old).bits }
     ensures octets { octets.new ≡ (repeated d_attach_detach_group_identity_type first end (of_attach_detach d) times octets.old).octets }
 {
-    let mut bits: u64 = 0;
-    for _ in 0..times {
-        let w = write_attach_detach(octets, first, end, d);
-        bits = w.written as u64;
-    }
-    bits
+    writes(d, octets, first, end, times)
 }
