@@ -66,7 +66,7 @@ pub(crate) fn window<M: Message>(
     window: Range<usize>,
     m: M,
 ) -> io::Result<()> {
-    line_512(rt, name, window, M::NUMBER, m.held())
+    line_512(rt, name, window, M::TYPE, m.alone())
 }
 
 // The same in all of them.
