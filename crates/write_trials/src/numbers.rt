@@ -15,22 +15,18 @@ use std::io;
 fn demand_widths(rt: &impl Print) -> io::Result<()> {
     trial(rt, "ciphering 1024", ciphered(1, Some(1024)))?;
     let k = class_of_version(8);
-    changed(
-        rt,
-        "version 8",
-        |d: &mut Demand| d.class_of_ms = Some(k).into(),
-    )?;
+    changed(rt, "version 8", |d: &mut Demand| {
+        d.class_of_ms = Some(k).into();
+    })?;
     changed(rt, "LA 16384", |d: &mut Demand| {
         d.la_information = Some(16384).into();
     })?;
     changed(rt, "LA 2^63", |d: &mut Demand| {
         d.la_information = Some(1 << 63).into();
     })?;
-    changed(
-        rt,
-        "SSI 2^24",
-        |d: &mut Demand| d.ssi = Some(OVER_24).into(),
-    )?;
+    changed(rt, "SSI 2^24", |d: &mut Demand| {
+        d.ssi = Some(OVER_24).into();
+    })?;
     changed(rt, "extension 2^24", |d: &mut Demand| {
         d.address_extension = Some(OVER_24).into();
     })?;
@@ -56,11 +52,9 @@ fn generic_widths(rt: &impl Print) -> io::Result<()> {
 }
 
 fn accept_widths(rt: &impl Print) -> io::Result<()> {
-    changed(
-        rt,
-        "SSI 2^24",
-        |a: &mut Accept| a.ssi = Some(OVER_24).into(),
-    )?;
+    changed(rt, "SSI 2^24", |a: &mut Accept| {
+        a.ssi = Some(OVER_24).into();
+    })?;
     changed(rt, "extension 2^24", |a: &mut Accept| {
         a.address_extension = Some(OVER_24).into();
     })?;

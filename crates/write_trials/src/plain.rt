@@ -29,16 +29,12 @@ fn demands(rt: &impl Print) -> io::Result<()> {
     as_read(rt, "demand, as 26 40 is read", &[0x26, 0x40], 16, DEMAND)?;
     changed(rt, "SSI 1", |d: &mut Demand| d.ssi = Some(1).into())?;
     let k = class_of_version(7);
-    changed(
-        rt,
-        "class word 0000E0",
-        |d: &mut Demand| d.class_of_ms = Some(k).into(),
-    )?;
-    changed(
-        rt,
-        "LA 1",
-        |d: &mut Demand| d.la_information = Some(1).into(),
-    )?;
+    changed(rt, "class word 0000E0", |d: &mut Demand| {
+        d.class_of_ms = Some(k).into();
+    })?;
+    changed(rt, "LA 1", |d: &mut Demand| {
+        d.la_information = Some(1).into();
+    })?;
     changed(rt, "LA 16383", |d: &mut Demand| {
         d.la_information = Some(16383).into();
     })?;
