@@ -18,7 +18,7 @@ fn end_line(rt: &impl Print, octets: &[u8], part: Range<usize>) -> io::Result<()
 }
 
 // One writing to octets of ones: the octets from that of the first bit to that of the last one written, and whether the
-// others are kept; with a refusal, whether all are.
+// others are kept; with a refusal, whether all are. The message is the library's number, since unknown ones are tried too.
 pub(crate) fn line(
     rt: &impl Print,
     name: impl Display + Drop,
