@@ -6,7 +6,7 @@ use elements::group_identity_downlink::{GroupIdentityDownlink, OptionalDownlinks
 use elements::group_identity_location_accept::OptionalLocationAccept;
 use elements::group_identity_location_demand::OptionalLocationDemand;
 use elements::group_identity_uplink::{GroupIdentityUplink, OptionalUplinks};
-use elements::typed_pdu_fields::{OptionalType3, OptionalType4};
+use elements::typed_pdu_fields::{OptionalType3, OptionalType4, OptionalU8, OptionalU64};
 use messages::d_attach_detach_group_identity::DAttachDetachGroupIdentity;
 use messages::d_location_update_accept::DLocationUpdateAccept;
 use messages::u_location_update_demand::ULocationUpdateDemand;
@@ -14,6 +14,15 @@ use messages::{ACCEPT, DEMAND, Record, SKIPPING, STRICT, read};
 use std::fmt::Display;
 use std::io;
 use std::ops::Range;
+
+// What the record holds, where it is present.
+fn octet(n: OptionalU8) -> Option<u64> {
+    n.present.then_some(u64::from(n.value))
+}
+
+fn number(n: OptionalU64) -> Option<u64> {
+    n.present.then_some(n.value)
+}
 
 // The numbers that are present, each behind its label.
 fn numbers(rt: &impl Print, rows: &[(&str, Option<u64>)]) -> io::Result<()> {
@@ -83,17 +92,12 @@ fn class_of_ms(rt: &impl Print, o: OptionalClassOfMs) -> io::Result<()> {
 fn energy_saving(rt: &impl Print, o: OptionalEnergySavingInformation) -> io::Result<()> {
     if o.present {
         let saving = o.value;
-        let frame = saving.frame_number;
-        let multiframe = saving.multiframe_number;
         print!(rt; " saving {}", saving.energy_saving_mode)?;
         numbers(
             rt,
             &[
-                ("frame", frame.present.then_some(u64::from(frame.value))),
-                (
-                    "multiframe",
-                    multiframe.present.then_some(u64::from(multiframe.value)),
-                ),
+                ("frame", octet(saving.frame_number)),
+                ("multiframe", octet(saving.multiframe_number)),
             ],
         )?;
     }
@@ -209,27 +213,19 @@ fn location_accept(rt: &impl Print, o: OptionalLocationAccept) -> io::Result<()>
 }
 
 fn demand(rt: &impl Print, d: ULocationUpdateDemand) -> io::Result<()> {
-    let ciphering = d.ciphering_parameters;
-    let mode = d.energy_saving_mode;
-    let la = d.la_information;
-    let ssi = d.ssi;
-    let extension = d.address_extension;
     print!(rt;
         " update type {} append {} cipher {}",
         d.location_update_type, d.request_to_append_la, d.cipher_control
     )?;
-    numbers(
-        rt,
-        &[("ciphering", ciphering.present.then_some(ciphering.value))],
-    )?;
+    numbers(rt, &[("ciphering", number(d.ciphering_parameters))])?;
     class_of_ms(rt, d.class_of_ms)?;
     numbers(
         rt,
         &[
-            ("mode", mode.present.then_some(u64::from(mode.value))),
-            ("la", la.present.then_some(la.value)),
-            ("ssi", ssi.present.then_some(ssi.value)),
-            ("extension", extension.present.then_some(extension.value)),
+            ("mode", octet(d.energy_saving_mode)),
+            ("la", number(d.la_information)),
+            ("ssi", number(d.ssi)),
+            ("extension", number(d.address_extension)),
         ],
     )?;
     location_demand(rt, d.group_identity_location_demand)?;
@@ -240,21 +236,18 @@ fn demand(rt: &impl Print, d: ULocationUpdateDemand) -> io::Result<()> {
 }
 
 fn accept(rt: &impl Print, a: DLocationUpdateAccept) -> io::Result<()> {
-    let ssi = a.ssi;
-    let extension = a.address_extension;
-    let subscriber = a.subscriber_class;
-    let scch = a.scch_information_and_distribution_on_18th_frame;
     print!(rt; " accept type {}", a.location_update_accept_type)?;
     numbers(
         rt,
         &[
-            ("ssi", ssi.present.then_some(ssi.value)),
-            ("extension", extension.present.then_some(extension.value)),
-            ("subscriber", subscriber.present.then_some(subscriber.value)),
+            ("ssi", number(a.ssi)),
+            ("extension", number(a.address_extension)),
+            ("subscriber", number(a.subscriber_class)),
         ],
     )?;
     energy_saving(rt, a.energy_saving_information)?;
-    numbers(rt, &[("scch", scch.present.then_some(scch.value))])?;
+    let scch = a.scch_information_and_distribution_on_18th_frame;
+    numbers(rt, &[("scch", number(scch))])?;
     type4(rt, 2, a.new_registered_area)?;
     type3(rt, 3, a.security_downlink)?;
     location_accept(rt, a.group_identity_location_accept)?;

@@ -4,13 +4,9 @@ use crate::records::{
     Accept, AttachDetach, Demand, accept_list, accept_saving, attach_detach_list, changed,
     ciphered, demand_list, trial,
 };
-use crate::values::{
-    NO_OCTET, class_of_ms, class_of_version, downlink_at, downlinks, gssi, number, octet,
-    uplink_at, uplinks,
-};
+use crate::values::{class_of_version, downlink_at, downlinks, gssi, uplink_at, uplinks};
 use elements::class_of_ms::ClassOfMs;
 use elements::group_identity_uplink::GroupIdentityUplink;
-use elements::typed_pdu_fields::NO_NUMBER;
 use std::io;
 
 fn demand_numbers(rt: &impl Print) -> io::Result<()> {
@@ -21,7 +17,7 @@ fn demand_numbers(rt: &impl Print) -> io::Result<()> {
         d.location_update_type = 255;
     })?;
     changed(rt, "append 2", |d: &mut Demand| d.request_to_append_la = 2)?;
-    trial(rt, "cipher control 2", ciphered(2, number(0)))
+    trial(rt, "cipher control 2", ciphered(2, Some(0)))
 }
 
 // A flag of the class of MS.
@@ -30,7 +26,7 @@ fn flag<F: FnOnce(&mut ClassOfMs)>(rt: &impl Print, name: &str, change: F) -> io
 {
     let mut k = class_of_version(7);
     change(&mut k);
-    changed(rt, name, |d: &mut Demand| d.class_of_ms = class_of_ms(k))
+    changed(rt, name, |d: &mut Demand| d.class_of_ms = Some(k).into())
 }
 
 fn flags(rt: &impl Print) -> io::Result<()> {
@@ -53,7 +49,7 @@ fn accept_numbers(rt: &impl Print) -> io::Result<()> {
     changed(rt, "accept type 8", |a: &mut Accept| {
         a.location_update_accept_type = 8;
     })?;
-    trial(rt, "saving mode 8", accept_saving(8, octet(0), octet(0)))?;
+    trial(rt, "saving mode 8", accept_saving(8, Some(0), Some(0)))?;
     let list = downlinks(usize::MAX, [downlink_at(gssi(1)); 63]);
     trial(rt, "list count 2^64 - 1", accept_list(list))
 }
@@ -76,7 +72,7 @@ pub(crate) fn trials(rt: &impl Print) -> io::Result<()> {
     demand_numbers(rt)?;
     flags(rt)?;
     changed(rt, "saving mode 8", |d: &mut Demand| {
-        d.energy_saving_mode = octet(8);
+        d.energy_saving_mode = Some(8).into();
     })?;
     usage(rt)?;
     let list = uplinks(usize::MAX, [uplink_at(gssi(1)); 63]);
@@ -86,11 +82,11 @@ pub(crate) fn trials(rt: &impl Print) -> io::Result<()> {
     trial(
         rt,
         "8 and 9: cipher control 2 without ciphering",
-        ciphered(2, NO_NUMBER),
+        ciphered(2, None),
     )?;
     trial(
         rt,
         "8 and 13: saving mode 8 without both",
-        accept_saving(8, NO_OCTET, NO_OCTET),
+        accept_saving(8, None, None),
     )
 }

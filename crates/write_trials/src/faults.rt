@@ -7,13 +7,12 @@ use crate::records::{
 };
 use crate::show::{whole, window};
 use crate::values::{
-    DETACHED, NO_OCTET, OVER_24, OVER_ADDRESS, address, downlink, downlink_at, downlinks, gssi,
-    number, octet, then, type3, type4, uplink, uplink_at, uplinks,
+    OVER_24, OVER_ADDRESS, address, downlink, downlink_at, downlinks, gssi, then, type3, type4,
+    uplink, uplink_at, uplinks,
 };
 use elements::group_address::GroupAddress;
 use elements::group_identity_downlink::OptionalDownlinks;
 use elements::group_identity_uplink::{GroupIdentityUplink, OptionalUplinks};
-use elements::typed_pdu_fields::NO_NUMBER;
 use std::io;
 
 fn no_address() -> GroupAddress {
@@ -22,7 +21,7 @@ fn no_address() -> GroupAddress {
 
 // Neither attached nor detached.
 fn neither() -> GroupIdentityUplink {
-    uplink(NO_OCTET, NO_OCTET, gssi(1))
+    uplink(None, None, gssi(1))
 }
 
 // A list of one group without an address.
@@ -35,19 +34,19 @@ fn one_uplink(rt: &impl Print) -> io::Result<()> {
         rt,
         "8 and 9: cipher control without ciphering, SSI 2^24",
         Demand {
-            ssi: number(OVER_24),
-            ..ciphered(1, NO_NUMBER)
+            ssi: Some(OVER_24).into(),
+            ..ciphered(1, None)
         },
     )?;
     uplink_trial(
         rt,
         "8 and 11: no address, class of usage 8",
-        uplink(octet(8), NO_OCTET, no_address()),
+        uplink(Some(8), None, no_address()),
     )?;
     uplink_trial(
         rt,
         "10 and 11: neither attached nor detached, no address",
-        uplink(NO_OCTET, NO_OCTET, no_address()),
+        uplink(None, None, no_address()),
     )
 }
 
@@ -70,12 +69,12 @@ fn demands(rt: &impl Print) -> io::Result<()> {
     trial(
         rt,
         "9 and 11: cipher control without ciphering, a group without an address",
-        located(ciphered(1, NO_NUMBER), 1, unaddressed()),
+        located(ciphered(1, None), 1, unaddressed()),
     )?;
     trial(
         rt,
         "9 and 10: ciphering without cipher control, a group of neither",
-        located(ciphered(0, number(0)), 1, uplinks(1, [neither(); 63])),
+        located(ciphered(0, Some(0)), 1, uplinks(1, [neither(); 63])),
     )?;
     trial(
         rt,
@@ -89,7 +88,7 @@ fn demands(rt: &impl Print) -> io::Result<()> {
 
 // A list of one group that is neither attached nor detached.
 fn unattached_downlinks() -> OptionalDownlinks {
-    downlinks(1, [downlink(DETACHED, NO_OCTET, gssi(1)); 63])
+    downlinks(1, [downlink(None, None, gssi(1)); 63])
 }
 
 fn unaddressed_downlinks() -> OptionalDownlinks {
@@ -97,8 +96,8 @@ fn unaddressed_downlinks() -> OptionalDownlinks {
 }
 
 fn accepts(rt: &impl Print) -> io::Result<()> {
-    let missing = accept_saving(1, NO_OCTET, NO_OCTET);
-    let alive = accept_saving(0, octet(0), NO_OCTET);
+    let missing = accept_saving(1, None, None);
+    let alive = accept_saving(0, Some(0), None);
     let area = with_area(Accept::start());
     trial(
         rt,

@@ -2,8 +2,8 @@
 use crate::records::{accept_list, attach_detach_list, demand_list};
 use crate::show::whole;
 use crate::values::{
-    DETACHED, NO_OCTET, OVER_ADDRESS, address, attachment, downlink, downlink_at, downlinks, gssi,
-    octet, uplink, uplink_at, uplinks,
+    OVER_ADDRESS, address, attachment, downlink, downlink_at, downlinks, gssi, uplink, uplink_at,
+    uplinks,
 };
 use elements::group_address::GroupAddress;
 use elements::group_identity_downlink::{GroupIdentityDownlink, OptionalDownlinks};
@@ -45,16 +45,16 @@ pub(crate) fn downlink_trial(
 
 // Each number one over its width.
 pub(crate) fn uplink_widths(rt: &impl Print) -> io::Result<()> {
-    uplink_trial(rt, "class of usage 8", uplink(octet(8), NO_OCTET, gssi(1)))?;
-    uplink_trial(rt, "detachment 4", uplink(NO_OCTET, octet(4), gssi(1)))?;
+    uplink_trial(rt, "class of usage 8", uplink(Some(8), None, gssi(1)))?;
+    uplink_trial(rt, "detachment 4", uplink(None, Some(4), gssi(1)))?;
     uplink_trial(rt, "GSSI 2^24", uplink_at(gssi(OVER_ADDRESS)))?;
     let extension = GroupAddress {
-        address_extension: OVER_ADDRESS,
+        address_extension: Some(OVER_ADDRESS),
         ..address(true, true, false)
     };
     uplink_trial(rt, "extension 2^24", uplink_at(extension))?;
     let vgssi = GroupAddress {
-        vgssi: OVER_ADDRESS,
+        vgssi: Some(OVER_ADDRESS),
         ..address(false, false, true)
     };
     uplink_trial(rt, "VGSSI 2^24", uplink_at(vgssi))
@@ -64,40 +64,40 @@ pub(crate) fn downlink_widths(rt: &impl Print) -> io::Result<()> {
     downlink_trial(
         rt,
         "lifetime 4",
-        downlink(attachment(4, 0), NO_OCTET, gssi(1)),
+        downlink(Some(attachment(4, 0)), None, gssi(1)),
     )?;
     downlink_trial(
         rt,
         "class of usage 8",
-        downlink(attachment(0, 8), NO_OCTET, gssi(1)),
+        downlink(Some(attachment(0, 8)), None, gssi(1)),
     )?;
-    downlink_trial(rt, "detachment 4", downlink(DETACHED, octet(4), gssi(1)))?;
+    downlink_trial(rt, "detachment 4", downlink(None, Some(4), gssi(1)))?;
     downlink_trial(rt, "GSSI 2^24", downlink_at(gssi(OVER_ADDRESS)))
 }
 
 // Attached, detached, neither and both.
 fn attachments(rt: &impl Print) -> io::Result<()> {
-    uplink_trial(rt, "detached", uplink(NO_OCTET, octet(3), gssi(1)))?;
+    uplink_trial(rt, "detached", uplink(None, Some(3), gssi(1)))?;
     uplink_trial(
         rt,
         "neither attached nor detached",
-        uplink(NO_OCTET, NO_OCTET, gssi(1)),
+        uplink(None, None, gssi(1)),
     )?;
     uplink_trial(
         rt,
         "attached and detached",
-        uplink(octet(4), octet(0), gssi(1)),
+        uplink(Some(4), Some(0), gssi(1)),
     )?;
-    downlink_trial(rt, "detached", downlink(DETACHED, octet(3), gssi(1)))?;
+    downlink_trial(rt, "detached", downlink(None, Some(3), gssi(1)))?;
     downlink_trial(
         rt,
         "neither attached nor detached",
-        downlink(DETACHED, NO_OCTET, gssi(1)),
+        downlink(None, None, gssi(1)),
     )?;
     downlink_trial(
         rt,
         "attached and detached",
-        downlink(attachment(3, 4), octet(0), gssi(1)),
+        downlink(Some(attachment(3, 4)), Some(0), gssi(1)),
     )
 }
 

@@ -1,13 +1,13 @@
 // Values over their widths in what is absent and behind a list's count: nothing looks at them.
 use crate::groups::{downlink_trial, downlinks_trial, uplink_trial, uplinks_trial};
 use crate::records::{
-    Accept, AttachDetach, Demand, accept_list, accept_saving, attach_detach_list, demand_list,
-    trial, with,
+    Accept, AttachDetach, Demand, accept_list, attach_detach_list, changed, demand_list, trial,
+    with,
 };
 use crate::show::line_512;
 use crate::values::{
-    NO_OCTET, attachment, class_of_version, downlink, downlink_at, downlinks, gssi, octet, saving,
-    then, type3, type4, uplink, uplink_at, uplinks,
+    attachment, class_of_version, downlink, downlink_at, downlinks, gssi, saving, then, type3,
+    type4, uplink, uplink_at, uplinks,
 };
 use elements::class_of_ms::{ClassOfMs, OptionalClassOfMs};
 use elements::energy_saving_information::OptionalEnergySavingInformation;
@@ -56,29 +56,24 @@ fn hidden_class() -> OptionalClassOfMs {
 fn hidden_saving() -> OptionalEnergySavingInformation {
     OptionalEnergySavingInformation {
         present: false,
-        ..saving(255, octet(255), NO_OCTET)
+        ..saving(255, Some(255).into(), None.into())
     }
 }
 
-// The three addresses over their width, all present or all absent.
-fn wrong_address(there: bool) -> GroupAddress {
-    GroupAddress {
-        gssi: u32::MAX,
-        address_extension: u32::MAX,
-        vgssi: u32::MAX,
-        gssi_present: there,
-        address_extension_present: there,
-        vgssi_present: there,
-    }
-}
+// The three addresses, over their width.
+const WRONG_ADDRESS: GroupAddress = GroupAddress {
+    gssi: Some(u32::MAX),
+    address_extension: Some(u32::MAX),
+    vgssi: Some(u32::MAX),
+};
 
 // Attached and detached, with all three addresses: 8, 10 and 11.
 fn wrong_uplink() -> GroupIdentityUplink {
-    uplink(octet(255), octet(255), wrong_address(true))
+    uplink(Some(255), Some(255), WRONG_ADDRESS)
 }
 
 fn wrong_downlink() -> GroupIdentityDownlink {
-    downlink(attachment(255, 255), octet(255), wrong_address(true))
+    downlink(Some(attachment(255, 255)), Some(255), WRONG_ADDRESS)
 }
 
 fn hidden_uplinks() -> OptionalUplinks {
@@ -207,35 +202,34 @@ fn lists(rt: &impl Print) -> io::Result<()> {
     )
 }
 
-// An address with a GSSI of 1.
-fn gssi_alone() -> GroupAddress {
-    GroupAddress {
-        gssi: 1,
-        gssi_present: true,
-        ..wrong_address(false)
-    }
-}
-
 fn groups(rt: &impl Print) -> io::Result<()> {
-    uplink_trial(
-        rt,
-        "values in what is absent",
-        uplink(octet(4), OCTET, gssi_alone()),
-    )?;
-    uplink_trial(
-        rt,
-        "values in what is absent, detached",
-        uplink(OCTET, octet(3), gssi_alone()),
-    )?;
-    downlink_trial(
-        rt,
-        "values in what is absent",
-        downlink(attachment(3, 4), OCTET, gssi_alone()),
-    )?;
-    trial(
+    let attached = GroupIdentityUplink {
+        address_extension: u32::MAX,
+        vgssi: u32::MAX,
+        group_identity_detachment_uplink: 255,
+        ..uplink_at(gssi(1))
+    };
+    uplink_trial(rt, "values in what is absent", attached)?;
+    let detached = GroupIdentityUplink {
+        address_extension: u32::MAX,
+        vgssi: u32::MAX,
+        class_of_usage: 255,
+        ..uplink(None, Some(3), gssi(1))
+    };
+    uplink_trial(rt, "values in what is absent, detached", detached)?;
+    let down = GroupIdentityDownlink {
+        address_extension: u32::MAX,
+        vgssi: u32::MAX,
+        group_identity_detachment_uplink: 255,
+        ..downlink_at(gssi(1))
+    };
+    downlink_trial(rt, "values in what is absent", down)?;
+    changed(
         rt,
         "StayAlive, values in what is absent",
-        accept_saving(0, OCTET, OCTET),
+        |a: &mut Accept| {
+            a.energy_saving_information = saving(0, OCTET, OCTET);
+        },
     )
 }
 

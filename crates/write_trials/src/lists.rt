@@ -2,18 +2,17 @@
 use crate::records::{accept_list, attach_detach_list, demand_list, trial};
 use crate::show::whole;
 use crate::values::{address, downlink_at, downlinks, gssi, uplink_at, uplinks};
-use elements::group_address::GroupAddress;
 use elements::group_identity_downlink::OptionalDownlinks;
 use elements::group_identity_uplink::{GroupIdentityUplink, OptionalUplinks};
 use std::{array, io};
 
 // A group of 30 bits, or of 54 with an extension.
 fn uplink_of(gssi: u32, extension: bool) -> GroupIdentityUplink {
-    uplink_at(GroupAddress {
+    GroupIdentityUplink {
         gssi,
         address_extension: 0x0C_C001,
-        ..address(true, extension, false)
-    })
+        ..uplink_at(address(true, extension, false))
+    }
 }
 
 // The GSSIs count up from 8388609.

@@ -6,27 +6,29 @@ use crate::records::{
     ciphered, demand_list, located, trial, with,
 };
 use crate::values::{
-    NO_OCTET, OVER_24, class_of_ms, class_of_version, downlink_at, downlinks, gssi, number, octet,
-    type4, uplink_at, uplinks,
+    OVER_24, class_of_version, downlink_at, downlinks, gssi, type4, uplink_at, uplinks,
 };
 use elements::group_identity_downlink::no_downlinks;
 use elements::group_identity_uplink::no_uplinks;
-use elements::typed_pdu_fields::NO_NUMBER;
 use std::io;
 
 fn demand_widths(rt: &impl Print) -> io::Result<()> {
-    trial(rt, "ciphering 1024", ciphered(1, number(1024)))?;
-    let k = class_of_ms(class_of_version(8));
-    changed(rt, "version 8", |d: &mut Demand| d.class_of_ms = k)?;
+    trial(rt, "ciphering 1024", ciphered(1, Some(1024)))?;
+    let k = class_of_version(8);
+    changed(rt, "version 8", |d: &mut Demand| {
+        d.class_of_ms = Some(k).into();
+    })?;
     changed(rt, "LA 16384", |d: &mut Demand| {
-        d.la_information = number(16384);
+        d.la_information = Some(16384).into();
     })?;
     changed(rt, "LA 2^63", |d: &mut Demand| {
-        d.la_information = number(1 << 63);
+        d.la_information = Some(1 << 63).into();
     })?;
-    changed(rt, "SSI 2^24", |d: &mut Demand| d.ssi = number(OVER_24))?;
+    changed(rt, "SSI 2^24", |d: &mut Demand| {
+        d.ssi = Some(OVER_24).into();
+    })?;
     changed(rt, "extension 2^24", |d: &mut Demand| {
-        d.address_extension = number(OVER_24);
+        d.address_extension = Some(OVER_24).into();
     })?;
     trial(rt, "mode 2", located(Demand::start(), 2, no_uplinks()))
 }
@@ -50,17 +52,19 @@ fn generic_widths(rt: &impl Print) -> io::Result<()> {
 }
 
 fn accept_widths(rt: &impl Print) -> io::Result<()> {
-    changed(rt, "SSI 2^24", |a: &mut Accept| a.ssi = number(OVER_24))?;
+    changed(rt, "SSI 2^24", |a: &mut Accept| {
+        a.ssi = Some(OVER_24).into();
+    })?;
     changed(rt, "extension 2^24", |a: &mut Accept| {
-        a.address_extension = number(OVER_24);
+        a.address_extension = Some(OVER_24).into();
     })?;
     changed(rt, "subscriber class 65536", |a: &mut Accept| {
-        a.subscriber_class = number(65536);
+        a.subscriber_class = Some(65536).into();
     })?;
-    trial(rt, "frame 32", accept_saving(1, octet(32), octet(63)))?;
-    trial(rt, "multiframe 64", accept_saving(1, octet(31), octet(64)))?;
+    trial(rt, "frame 32", accept_saving(1, Some(32), Some(63)))?;
+    trial(rt, "multiframe 64", accept_saving(1, Some(31), Some(64)))?;
     changed(rt, "SCCH 64", |a: &mut Accept| {
-        a.scch_information_and_distribution_on_18th_frame = number(64);
+        a.scch_information_and_distribution_on_18th_frame = Some(64).into();
     })?;
     trial(
         rt,
@@ -80,41 +84,29 @@ pub(crate) fn widths(rt: &impl Print) -> io::Result<()> {
 }
 
 pub(crate) fn ciphering(rt: &impl Print) -> io::Result<()> {
-    trial(rt, "ciphering 1023", ciphered(1, number(1023)))?;
-    trial(
-        rt,
-        "cipher control without ciphering",
-        ciphered(1, NO_NUMBER),
-    )?;
-    trial(
-        rt,
-        "ciphering without cipher control",
-        ciphered(0, number(0)),
-    )
+    trial(rt, "ciphering 1023", ciphered(1, Some(1023)))?;
+    trial(rt, "cipher control without ciphering", ciphered(1, None))?;
+    trial(rt, "ciphering without cipher control", ciphered(0, Some(0)))
 }
 
 pub(crate) fn saving(rt: &impl Print) -> io::Result<()> {
-    let zero = octet(0);
-    trial(rt, "StayAlive", accept_saving(0, NO_OCTET, NO_OCTET))?;
-    trial(rt, "StayAlive with frame", accept_saving(0, zero, NO_OCTET))?;
+    let zero = Some(0);
+    trial(rt, "StayAlive", accept_saving(0, None, None))?;
+    trial(rt, "StayAlive with frame", accept_saving(0, zero, None))?;
     trial(
         rt,
         "StayAlive with multiframe",
-        accept_saving(0, NO_OCTET, zero),
+        accept_saving(0, None, zero),
     )?;
     trial(rt, "StayAlive with both", accept_saving(0, zero, zero))?;
     trial(
         rt,
         "Eg1 with frame 31, multiframe 63",
-        accept_saving(1, octet(31), octet(63)),
+        accept_saving(1, Some(31), Some(63)),
     )?;
-    trial(rt, "Eg1 without frame", accept_saving(1, NO_OCTET, zero))?;
-    trial(
-        rt,
-        "Eg1 without multiframe",
-        accept_saving(1, zero, NO_OCTET),
-    )?;
-    trial(rt, "Eg1 without both", accept_saving(1, NO_OCTET, NO_OCTET))
+    trial(rt, "Eg1 without frame", accept_saving(1, None, zero))?;
+    trial(rt, "Eg1 without multiframe", accept_saving(1, zero, None))?;
+    trial(rt, "Eg1 without both", accept_saving(1, None, None))
 }
 
 // Element 2.

@@ -4,10 +4,7 @@ use crate::records::{
     trial, with,
 };
 use crate::show::line_512;
-use crate::values::{
-    class_of_ms, class_of_version, downlink_at, downlinks, gssi, number, octet, type3, uplink_at,
-    uplinks,
-};
+use crate::values::{class_of_version, downlink_at, downlinks, gssi, type3, uplink_at, uplinks};
 use elements::group_identity_downlink::no_downlinks;
 use elements::group_identity_uplink::no_uplinks;
 use messages::{ACCEPT, DEMAND, STRICT, read};
@@ -30,15 +27,19 @@ pub(crate) fn demand_9(len: usize, data: u64) -> Demand {
 fn demands(rt: &impl Print) -> io::Result<()> {
     trial(rt, "nothing optional", Demand::start())?;
     as_read(rt, "demand, as 26 40 is read", &[0x26, 0x40], 16, DEMAND)?;
-    changed(rt, "SSI 1", |d: &mut Demand| d.ssi = number(1))?;
-    let k = class_of_ms(class_of_version(7));
-    changed(rt, "class word 0000E0", |d: &mut Demand| d.class_of_ms = k)?;
-    changed(rt, "LA 1", |d: &mut Demand| d.la_information = number(1))?;
+    changed(rt, "SSI 1", |d: &mut Demand| d.ssi = Some(1).into())?;
+    let k = class_of_version(7);
+    changed(rt, "class word 0000E0", |d: &mut Demand| {
+        d.class_of_ms = Some(k).into();
+    })?;
+    changed(rt, "LA 1", |d: &mut Demand| {
+        d.la_information = Some(1).into();
+    })?;
     changed(rt, "LA 16383", |d: &mut Demand| {
-        d.la_information = number(16383);
+        d.la_information = Some(16383).into();
     })?;
     changed(rt, "saving mode 7", |d: &mut Demand| {
-        d.energy_saving_mode = octet(7);
+        d.energy_saving_mode = Some(7).into();
     })?;
     trial(rt, "9 of length 0, data 0", demand_9(0, 0))?;
     trial(rt, "9 of length 1, data 1", demand_9(1, 1))?;

@@ -9,11 +9,10 @@ use elements::group_identity_location_demand::{
     GroupIdentityLocationDemand, OptionalLocationDemand,
 };
 use elements::group_identity_uplink::OptionalUplinks;
-use elements::typed_pdu_fields::{OptionalU8, OptionalU64};
-use messages::d_attach_detach_group_identity::{DAttachDetachGroupIdentity, no_attach_detach};
-use messages::d_location_update_accept::{DLocationUpdateAccept, no_accept};
-use messages::u_location_update_demand::{ULocationUpdateDemand, no_demand};
-use messages::{ACCEPT, ATTACH_DETACH, DEMAND, Record};
+use messages::d_attach_detach_group_identity::DAttachDetachGroupIdentity;
+use messages::d_location_update_accept::DLocationUpdateAccept;
+use messages::u_location_update_demand::ULocationUpdateDemand;
+use messages::{OwnRecord, Pdu};
 use std::io;
 
 pub(crate) type Demand = ULocationUpdateDemand;
@@ -22,84 +21,45 @@ pub(crate) type Accept = DLocationUpdateAccept;
 
 pub(crate) type AttachDetach = DAttachDetachGroupIdentity;
 
-// The record of one message.
-pub(crate) trait Message: Copy {
-    const NUMBER: u64;
-
+// One of the three messages, as it is tried.
+pub(crate) trait Message: Pdu {
+    // Its name on the lines.
     const NAME: &'static str;
 
-    // To start from.
+    // The record to start from.
     fn start() -> Self;
-
-    // As a call is given it.
-    fn held(self) -> Record;
-}
-
-fn no_record() -> Record {
-    Record {
-        demand: no_demand(),
-        accept: no_accept(),
-        attach_detach: no_attach_detach(),
-    }
 }
 
 impl Message for ULocationUpdateDemand {
-    const NUMBER: u64 = DEMAND;
-
     const NAME: &'static str = "demand";
 
     fn start() -> Demand {
         Demand {
             location_update_type: 3,
-            ..no_demand()
-        }
-    }
-
-    fn held(self) -> Record {
-        Record {
-            demand: self,
-            ..no_record()
+            ..Demand::none()
         }
     }
 }
 
 impl Message for DLocationUpdateAccept {
-    const NUMBER: u64 = ACCEPT;
-
     const NAME: &'static str = "accept";
 
     fn start() -> Accept {
         Accept {
             location_update_accept_type: 3,
-            ..no_accept()
-        }
-    }
-
-    fn held(self) -> Record {
-        Record {
-            accept: self,
-            ..no_record()
+            ..Accept::none()
         }
     }
 }
 
 impl Message for DAttachDetachGroupIdentity {
-    const NUMBER: u64 = ATTACH_DETACH;
-
     const NAME: &'static str = "attach/detach";
 
     fn start() -> AttachDetach {
         AttachDetach {
             group_identity_acknowledgement_request: 1,
             group_identity_attach_detach_mode: 1,
-            ..no_attach_detach()
-        }
-    }
-
-    fn held(self) -> Record {
-        Record {
-            attach_detach: self,
-            ..no_record()
+            ..AttachDetach::none()
         }
     }
 }
@@ -129,10 +89,10 @@ pub(crate) fn changed<M: Message, F: FnOnce(&mut M)>(
     trial(rt, name, with(change))
 }
 
-pub(crate) fn ciphered(control: u8, parameters: OptionalU64) -> Demand {
+pub(crate) fn ciphered(control: u8, parameters: Option<u64>) -> Demand {
     Demand {
         cipher_control: control,
-        ciphering_parameters: parameters,
+        ciphering_parameters: parameters.into(),
         ..Demand::start()
     }
 }
@@ -155,9 +115,9 @@ pub(crate) fn demand_list(list: OptionalUplinks) -> Demand {
     located(Demand::start(), 1, list)
 }
 
-pub(crate) fn accept_saving(mode: u8, frame: OptionalU8, multiframe: OptionalU8) -> Accept {
+pub(crate) fn accept_saving(mode: u8, frame: Option<u8>, multiframe: Option<u8>) -> Accept {
     Accept {
-        energy_saving_information: saving(mode, frame, multiframe),
+        energy_saving_information: saving(mode, frame.into(), multiframe.into()),
         ..Accept::start()
     }
 }

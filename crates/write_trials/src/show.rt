@@ -18,7 +18,7 @@ fn end_line(rt: &impl Print, octets: &[u8], part: Range<usize>) -> io::Result<()
 }
 
 // One writing to octets of ones: the octets from that of the first bit to that of the last one written, and whether the
-// others are kept; with a refusal, whether all are.
+// others are kept; with a refusal, whether all are. The message is the library's number, since unknown ones are tried too.
 pub(crate) fn line(
     rt: &impl Print,
     name: impl Display + Drop,
@@ -66,7 +66,7 @@ pub(crate) fn window<M: Message>(
     window: Range<usize>,
     m: M,
 ) -> io::Result<()> {
-    line_512(rt, name, window, M::NUMBER, m.held())
+    line_512(rt, name, window, M::TYPE, m.alone())
 }
 
 // The same in all of them.

@@ -4,11 +4,8 @@ use crate::records::{
     Accept, AttachDetach, Demand, Message, accept_list, attach_detach_list, demand_list, with,
 };
 use crate::show::{line, line_512, window};
-use crate::values::{
-    NO_OCTET, OVER_24, address, downlink_at, downlinks, gssi, number, octet, uplink, uplink_at,
-    uplinks,
-};
-use messages::DEMAND;
+use crate::values::{OVER_24, address, downlink_at, downlinks, gssi, uplink, uplink_at, uplinks};
+use messages::{DEMAND, OwnRecord};
 use std::io;
 use std::ops::Range;
 
@@ -43,7 +40,7 @@ fn both(rt: &impl Print, name: &str, bits: Range<usize>, m: impl Message) -> io:
 
 // Just long enough, one bit short, and longer.
 fn shifts(rt: &impl Print) -> io::Result<()> {
-    let d = with(|d: &mut Demand| d.ssi = number(1));
+    let d = with(|d: &mut Demand| d.ssi = Some(1).into());
     for first in 1..8 {
         both(rt, "demand, SSI 1", first..first + 40, d)?;
         placed(rt, "demand, SSI 1", first..4096, d)?;
@@ -53,7 +50,7 @@ fn shifts(rt: &impl Print) -> io::Result<()> {
 
 fn one_group(rt: &impl Print) -> io::Result<()> {
     both(rt, "accept, nothing optional", 4088..4096, Accept::start())?;
-    let detached = uplinks(1, [uplink(NO_OCTET, octet(3), gssi(1)); 63]);
+    let detached = uplinks(1, [uplink(None, Some(3), gssi(1)); 63]);
     both(rt, "uplink, detached", 5..92, demand_list(detached))?;
     let whole_address = downlinks(1, [downlink_at(address(true, true, true)); 63]);
     both(
@@ -77,7 +74,7 @@ fn many_groups(rt: &impl Print) -> io::Result<()> {
 fn unknown(rt: &impl Print) -> io::Result<()> {
     for message in &[0, 3, 4, 258, u64::MAX] {
         let name = format_args!("message {message}");
-        line_512(rt, name, 0..10, *message, Demand::start().held())?;
+        line_512(rt, name, 0..10, *message, Demand::start().alone())?;
     }
     Ok(())
 }
@@ -92,7 +89,7 @@ fn lent(rt: &impl Print, octets: &mut [u8], bits: Range<usize>) -> io::Result<()
         octets,
         bits,
         DEMAND,
-        Demand::start().held(),
+        Demand::start().alone(),
     )
 }
 
@@ -109,7 +106,7 @@ fn question_1(rt: &impl Print) -> io::Result<()> {
     lent(rt, &mut [0xFF; 512], 4096..4096)?;
     lent(rt, &mut [], 0..0)?;
     lent(rt, &mut [], 0..1)?;
-    let wide = with(|d: &mut Demand| d.ssi = number(OVER_24));
+    let wide = with(|d: &mut Demand| d.ssi = Some(OVER_24).into());
     placed(rt, "demand, SSI 2^24", 1..0, wide)
 }
 
