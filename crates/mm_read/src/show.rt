@@ -416,11 +416,14 @@ fn meaning(refusal: PduParseErr) -> &'static str {
     match refusal {
         PduParseErr::BadCall =>
             "the message is not known, there are more than 4,096 octets, or not first <= end <= 8 x octets",
-        PduParseErr::BufferEnded => "a field, an identifier or skipped content does not end inside the window",
+        PduParseErr::BufferEnded =>
+            "a field, an identifier or skipped content does not end inside the window",
         PduParseErr::InvalidPduType => "the 4-bit type is not the message's own",
         PduParseErr::InvalidValue => "the reserved bit of the location demand is not 0",
-        PduParseErr::Type4Underflow => "a type 4 length, which counts the 6 bits of its number of entries, is below 6",
-        PduParseErr::InconsistentLength => "a structure or a group list does not end where its length said",
+        PduParseErr::Type4Underflow =>
+            "a type 4 length, which counts the 6 bits of its number of entries, is below 6",
+        PduParseErr::InconsistentLength =>
+            "a structure or a group list does not end where its length said",
         PduParseErr::InvalidTrailingMbitValue => "the closing M-bit is not 0",
         _ => "no refusal of a reading",
     }
