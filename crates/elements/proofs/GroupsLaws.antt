@@ -17,19 +17,7 @@ use Rattle.elements.specs.declared.group_identity_uplink.GroupIdentityUplink.{Gr
 use Rattle.elements.specs.declared.group_identity_downlink.GroupIdentityDownlink.{GroupIdentityDownlink}
 use Rattle.elements.specs.declared.group_address.GroupAddress.{GroupAddress}
 
--- ## local
-
-pub uplink_address-local : Local uplink_address
-unfolding uplink_address address_of
-uplink_address-local = search local·rules depth 16
-
-pub downlink_address-local : Local downlink_address
-unfolding downlink_address address_of
-downlink_address-local = search local·rules depth 16
-
-pub attachment_info-local : Local attachment_info
-unfolding attachment_info
-attachment_info-local = search local·rules depth 8
+-- ## attachment
 
 -- lifetime and class of usage are one field
 pub attachment-word : (bs : Bits)
@@ -41,14 +29,6 @@ attachment-word bs =
   where
     said : List ℕ → GroupIdentityAttachment
     said vs = record { group_identity_attachment_lifetime = get_or vs 0 0; class_of_usage = get_or vs 1 0 }
-
-pub uplink-local : Local uplink
-unfolding uplink
-uplink-local = search (local·rules, uplink_address-local) depth 16
-
-pub downlink-local : Local downlink
-unfolding downlink
-downlink-local = search (local·rules, downlink_address-local, attachment_info-local) depth 16
 
 -- ## address types
 

@@ -36,7 +36,7 @@ content-local s n = go s.kind
     go generic_type4 = bind_local (type4 n) _ (type4-local n) (λ g. got-local (is_type4 g))
     go of_location_demand = bind_local (location_demand n) _ (demand_laws.local n) (λ d. got-local (is_location_demand d))
     go of_location_accept = bind_local (location_accept n) _ (accept_laws.local n) (λ d. got-local (is_location_accept d))
-    go of_downlinks = bind_local (list downlinks n) _ (list-local downlinks_sound n) (λ l. got-local (is_downlinks l))
+    go of_downlinks = bind_local (list downlinks n) _ (list-local downlinks downlinks_sound.local n) (λ l. got-local (is_downlinks l))
 
 pub content-passes : (s : Slot) (n : ℕ) → Passes n (content s n)
 unfolding content_of

@@ -15,7 +15,8 @@ use Rattle.bits.specs.Reader.{got, times, exactly, Local}
 use Rattle.bits.specs.ReaderLaws.{local·rules, got-local, bind_local, times-local, local_tail, split-then, exactly-got, Passes, exactly-passes}
 use Rattle.elements.specs.Numbers.{held, option_all}
 use Rattle.elements.proofs.NumbersLaws.{never, both, same_map}
-use Rattle.elements.proofs.GroupsLaws.{uplink-local, uplink_back_lem, uplink-same, uplink_normal-same, uplink-own, downlink-local, downlink_back_lem, downlink-same, downlink_normal-same, downlink-own}
+use Rattle.elements.specs.GroupListLaws.{uplink-local, downlink-local}
+use Rattle.elements.proofs.GroupsLaws.{uplink_back_lem, uplink-same, uplink_normal-same, uplink-own, downlink_back_lem, downlink-same, downlink_normal-same, downlink-own}
 use Rattle.elements.specs.Generics.{entries_width}
 use Rattle.elements.proofs.GenericsLaws.{entries-back, entries-got, exactly-back, entries-passes}
 use Rattle.elements.specs.Lists.{entries_most, each, all, Each, both_end, one_more, Groups, padded, list_of, groups_as, groups_read, list, list_bits, list_fits, list_one, list_listed, list_normal, SameList, uplinks, downlinks}
@@ -59,19 +60,19 @@ downlinks_sound = record {
   whole = λ l. refl;
 }
 
+-- ## what a list's reader uses
+
+pub entries-local : {G L : Type 0} (k : Groups G L) → Local k.group → (p : Bool) (m : ℕ) → Local (groups_as k p m)
+entries-local k l p m = bind_local (times m k.group) _ (times-local m k.group l) (λ gs. got-local _)
+
+pub list-local : {G L : Type 0} (k : Groups G L) → Local k.group → (n : ℕ) → Local (list k n)
+unfolding list
+list-local k l n = search (local·rules, entries-local k l) depth 8
+
 module _ {G L : Type 0} {k : Groups G L} (s : Sound k) where
-  -- ## what a list's reader uses
-
-  pub entries-local : (p : Bool) (m : ℕ) → Local (groups_as k p m)
-  entries-local p m = bind_local (times m k.group) _ (times-local m k.group s.local) (λ gs. got-local _)
-
-  pub list-local : (n : ℕ) → Local (list k n)
-  unfolding list
-  list-local n = search (local·rules, entries-local) depth 8
-
   pub list-passes : (n : ℕ) → Passes n (list k n)
   unfolding list
-  list-passes n = entries-passes (λ m n. exactly n (groups_read k m)) (λ m n. exactly-passes n (groups_read k m) (local_tail (entries-local true m))) n
+  list-passes n = entries-passes (λ m n. exactly n (groups_read k m)) (λ m n. exactly-passes n (groups_read k m) (local_tail (entries-local k s.local true m))) n
 
   -- ## reading back
 

@@ -40,7 +40,7 @@ module _ {G L : Type 0} {k : Groups G L} (s : Sound k) (i : ℕ) where
     where
       test : (b : Bool) → Local (nested_if k i b)
       test true =
-          bind_local (scan_table (λ i. i) (λ i. list k) false (i ∷ [])) _ (scan-local (λ i. i) (λ i. list k) (λ j n. list-local s n) _ (i ∷ [])) (λ x. got-local _)
+          bind_local (scan_table (λ i. i) (λ i. list k) false (i ∷ [])) _ (scan-local (λ i. i) (λ i. list k) (λ j n. list-local k s.local n) _ (i ∷ [])) (λ x. got-local _)
       test false = got-local _
 
   -- a list that was read is its own normal form

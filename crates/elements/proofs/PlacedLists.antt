@@ -8,7 +8,7 @@ use Rattle.std.proofs.Math.ListN.{length}
 use Rattle.std.proofs.lemmas.Bool.{lt-leb}
 use Rattle.bits.specs.Bits.{Bits}
 use Rattle.bits.specs.PduParseError.{type4_underflow, inconsistent_length}
-use Rattle.bits.specs.Reader.{Answer, got, refused, Reader, then, ◌>>=◌, field, unless, Tail}
+use Rattle.bits.specs.Reader.{Answer, got, refused, Reader, then, ◌>>=◌, field, unless, Local, Tail}
 use Rattle.bits.specs.ReaderLaws.{then-then, then_same, split-then, refused-got, local·rules, local_tail, field-local, field_lt, unless-local, zero_one}
 use Rattle.bits.specs.Placed.{window, Placed, placed, halted, at}
 use Rattle.bits.specs.PlacedLaws.{Gives, told, step, stop, done}
@@ -20,8 +20,8 @@ use Rattle.elements.proofs.NumbersLaws.{both}
 use Rattle.elements.proofs.PlacedOptional.{known}
 use Rattle.elements.specs.Table.{length_width, look, Header, header}
 use Rattle.elements.proofs.TableLaws.{two_slots, slot_cases, slot_tail}
-use Rattle.elements.specs.Lists.{Groups, list_as, list_of, groups_as, list, entries_most}
-use Rattle.elements.proofs.ListsLaws.{Sound, entries-local}
+use Rattle.elements.specs.Lists.{Groups, Made, list_as, list_of, groups_as, list, entries_most}
+use Rattle.elements.proofs.ListsLaws.{entries-local}
 use Rattle.elements.specs.Rows.{sized}
 use Rattle.elements.specs.Fronts.{front_of, front_at, list_front, behind_front}
 use Rattle.elements.specs.GroupAnswers.{nested_slot, nested_slot_if}
@@ -73,23 +73,20 @@ module _ {G L : Type 0} (k : Groups G L) (p : Bool) where
           rw z (gathered_none listed k.group os place (take i groups)) in
           record { eq = f.rest ∙ e ∙ (λ j. placed (k.make p ((t ∙ q) j) (w j)) place) }
 
--- ## an element that begins with its number of entries, from its length on
+-- ## n bits that begin with their number of entries
 
-module _ {A : Type 0} (r : ℕ → ℕ → Reader A) {os : List ℕ} {c : Cursor} {n : ℕ} {c₁ : Cursor} (e₁ : Gives (field length_width) os c (placed n c₁)) where
-  behind-length : {x : Placed A} → Gives (entries r n) os c₁ x → Gives (sized (entries r)) os c x
-  behind-length g = step _ e₁ (local_tail (field-local length_width)) g
+module _ {A : Type 0} (r : ℕ → ℕ → Reader A) (n : ℕ) {os : List ℕ} {c : Cursor} where
+  pub entries_unnumbered : {m : PduParseErr} → Gives (field entries_width) os c (halted m) → Gives (entries r n) os c (halted m)
+  entries_unnumbered e = stop _ e
 
-  pub entries_unnumbered : {m : PduParseErr} → Gives (field entries_width) os c₁ (halted m) → Gives (sized (entries r)) os c (halted m)
-  entries_unnumbered e = behind-length (stop _ e)
+  module _ {m : ℕ} {c₁ : Cursor} (e₁ : Gives (field entries_width) os c (placed m c₁)) where
+    behind-number : {x : Placed A} → Gives (unless (leb entries_width n) type4_underflow >>= λ z. r m (n - entries_width)) os c₁ x → Gives (entries r n) os c x
+    behind-number g = step _ e₁ (local_tail (field-local entries_width)) g
 
-  module _ {m : ℕ} {c₂ : Cursor} (e₂ : Gives (field entries_width) os c₁ (placed m c₂)) where
-    behind-number : {x : Placed A} → Gives (unless (leb entries_width n) type4_underflow >>= λ z. r m (n - entries_width)) os c₂ x → Gives (sized (entries r)) os c x
-    behind-number g = behind-length (step _ e₂ (local_tail (field-local entries_width)) g)
-
-    pub entries_underflow : n < entries_width → Gives (sized (entries r)) os c (halted type4_underflow)
+    pub entries_underflow : n < entries_width → Gives (entries r n) os c (halted type4_underflow)
     entries_underflow h = behind-number (stop _ (failed type4_underflow (lt-leb entries_width n h)))
 
-    pub entries-there : entries_width ≤ n → {x : Placed A} → Gives (r m (n - entries_width)) os c₂ x → Gives (sized (entries r)) os c x
+    pub entries-there : entries_width ≤ n → {x : Placed A} → Gives (r m (n - entries_width)) os c₁ x → Gives (entries r n) os c x
     entries-there h e = behind-number (step _ (passed type4_underflow (le-leb entries_width n h)) (local_tail (unless-local (leb entries_width n) type4_underflow)) e)
 
 -- the entries made into another value
@@ -161,7 +158,7 @@ module _ {G L : Type 0} (k : Groups G L) (i : ℕ) where
     list-absent e = alike (list_front i b >>= behind_front k) (slot-behind b _) (step _ e (front_tail i b) done)
 
 -- A LIST'S SLOT, read by a loop behind its front: it stands at `place`, with j groups read
-module _ {G L : Type 0} {k : Groups G L} (s : Sound k) (i : ℕ) (b : Bool) {os : List ℕ} {c : Cursor} {f : ListFront} {c₁ : Cursor}
+module _ {G L : Type 0} (k : Groups G L) (s : Local k.group) (i : ℕ) (b : Bool) {os : List ℕ} {c : Cursor} {f : ListFront} {c₁ : Cursor}
     (e : Gives (list_front i b) os c (placed (Some f) c₁)) {groups : List G} {place : Cursor} {j : ℕ} (l : Filled k true os f.count c₁ groups place j) where
   pub few : f.count ≤ entries_most
   few = front-few i b (window os c) (told (front_tail i b) e).said
@@ -174,7 +171,7 @@ module _ {G L : Type 0} {k : Groups G L} (s : Sound k) (i : ℕ) (b : Bool) {os 
     group-refused g = behind (exact-stop _ (filled-not k _ l h g))
 
     pub group-read : {g : G} {next : Cursor} → Gives k.group os place (placed g next) → Filled k true os f.count c₁ (set groups j g) next (j + 1)
-    group-read g = filled_more k _ l h few (local_tail s.local) g
+    group-read g = filled_more k _ l h few (local_tail s) g
 
   module _ (h : f.count ≤ j) where
     all_there : Gives (groups_as k true f.count) os c₁ (placed (k.make true f.count groups) place)
@@ -182,20 +179,43 @@ module _ {G L : Type 0} {k : Groups G L} (s : Sound k) (i : ℕ) (b : Bool) {os 
 
     -- it ends behind where it begins
     pub list_on : c₁.at ≤ place.at
-    list_on = (told (local_tail (entries-local s _ _)) all_there).on
+    list_on = (told (local_tail (entries-local k s true f.count)) all_there).on
 
     pub list-whole : place.at - c₁.at ≡ f.len → Gives (nested_slot_if k i b) os c (placed (k.make true f.count groups) place)
-    list-whole q = behind (exact _ all_there (local_tail (entries-local s _ _)) q)
+    list-whole q = behind (exact _ all_there (local_tail (entries-local k s true f.count)) q)
 
     pub list-inexact : (place.at - c₁.at ≡ f.len → ⊥) → Gives (nested_slot_if k i b) os c (halted inconsistent_length)
-    list-inexact q = behind (inexact _ all_there (local_tail (entries-local s _ _)) q)
+    list-inexact q = behind (inexact _ all_there (local_tail (entries-local k s true f.count)) q)
 
 -- a list without groups, and without bits for them
-pub list_none : {G L : Type 0} {k : Groups G L} (s : Sound k) (i : ℕ) (b : Bool) {os : List ℕ} {c : Cursor} {f : ListFront} {c₁ : Cursor}
+pub list_none : {G L : Type 0} (k : Groups G L) (s : Local k.group) (i : ℕ) (b : Bool) {os : List ℕ} {c : Cursor} {f : ListFront} {c₁ : Cursor}
     → Gives (list_front i b) os c (placed (Some f) c₁) → (eqb f.count 0 && eqb f.len 0) ≡ true
     → Gives (nested_slot_if k i b) os c (placed (k.make true 0 (replicate entries_most k.zero)) c₁)
-list_none {k = k} s i b {f = f} e h =
+list_none k s i b {f = f} e h =
     let x = both (eqb f.count 0) _ h in
     let n = eqb-true f.count 0 x.0 in
     let m = eqb-true f.len 0 x.1 in
-    known (list-whole s i b e (filled_none k _) (omega arith) (omega arith)) (ap (λ m. k.make true m (replicate entries_most k.zero)) n)
+    known (list-whole k s i b e (filled_none k _) (omega arith) (omega arith)) (ap (λ m. k.make true m (replicate entries_most k.zero)) n)
+
+-- ## a list that is filled in place
+
+-- it is there, counts n groups, and i of them are read
+pub record FilledList {G L : Type 0} (k : Groups G L) (os : List ℕ) (n : ℕ) (c : Cursor) (l : L) (place : Cursor) (i : ℕ) : Type 0 where
+  pub filled : Filled k true os n c (k.groups l) place i
+  pub whole : l ≡ k.make true n (k.groups l)
+
+module _ {G L : Type 0} (k : Groups G L) (m : Made k) {os : List ℕ} {n : ℕ} {c : Cursor} {l : L} where
+  list_made : {gs : List G} {place : Cursor} {i : ℕ} → l ≡ k.make true n gs → Filled k true os n c gs place i → FilledList k os n c l place i
+  list_made {gs} e f =
+      let h : k.groups l ≡ gs = ap k.groups e ∙ m.groups true n gs in
+      record { filled = rw h f; whole = e ∙ ap (k.make true n) (sym h) }
+
+  pub list_zeros : l ≡ k.make true n (replicate entries_most k.zero) → FilledList k os n c l c 0
+  list_zeros e = list_made e (filled_none k true)
+
+  pub list_put : {l' : L} {gs : List G} {next : Cursor} {i : ℕ} → l' ≡ k.make true n (k.groups l') → l ≡ k.make (k.present l') (k.count l') gs
+      → Filled k true os n c gs next i → FilledList k os n c l next i
+  list_put {l'} {gs} whole e f =
+      let p : k.present l' ≡ true = ap k.present whole ∙ m.presence true n (k.groups l') in
+      let q : k.count l' ≡ n = ap k.count whole ∙ m.count true n (k.groups l') in
+      list_made (e ∙ (λ j. k.make (p j) (q j) gs)) f

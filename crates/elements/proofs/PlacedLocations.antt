@@ -6,24 +6,24 @@ use Rattle.std.proofs.Math.Bool.{true, false}
 use Rattle.std.specs.Prelude.{Option, None, Some}
 use Rattle.bits.specs.PduParseError.{inconsistent_length}
 use Rattle.bits.specs.Bits.{Bits}
-use Rattle.bits.specs.Reader.{Answer, got, refused, Reader, then, ◌>>=◌, field, exactly, Tail}
+use Rattle.bits.specs.Reader.{Answer, got, refused, Reader, then, ◌>>=◌, field, exactly, Local, Tail}
 use Rattle.bits.specs.ReaderLaws.{then-then, then_same, local·rules, local_tail, field-local, bind_tail}
 use Rattle.bits.specs.Placed.{window, Placed, placed, halted}
 use Rattle.bits.specs.PlacedLaws.{Gives, told, step, stop, done}
 use Rattle.bits.specs.PlacedTimes.{alike, exact, inexact, exact-stop}
 use Rattle.bits.specs.declared.bitbuffer.Cursor.{Cursor}
 use Rattle.elements.specs.Numbers.{flag_width, value_or}
-use Rattle.elements.specs.Table.{length_width, look, Header, header, counted, closing, slot, scan}
+use Rattle.elements.specs.Table.{look, Header, header, counted, closing, slot, scan}
 use Rattle.elements.proofs.TableLaws.{two_slots, closing-local, slot_tail}
 use Rattle.elements.specs.Lists.{Groups, list, list_of, downlinks}
 use Rattle.elements.proofs.ListsLaws.{Sound, list-local}
 use Rattle.elements.specs.Locations.{nested_if, nested}
 use Rattle.elements.proofs.LocationsLaws.{nested-local}
 use Rattle.elements.specs.Kinds.{Kind, of_downlinks, row, Element, is_downlinks, held_element, content_of, identifier_of, content}
-use Rattle.elements.specs.Rows.{sized, empty_table}
-use Rattle.elements.specs.Answers.{opening}
+use Rattle.elements.specs.Rows.{empty_table}
+use Rattle.elements.specs.Fronts.{slot_front}
 use Rattle.elements.specs.GroupAnswers.{nested_slot, nested_slot_if, downlinks_slot}
-use Rattle.elements.proofs.PlacedTable.{slot-there, sized-made}
+use Rattle.elements.proofs.PlacedTable.{front-there}
 use Rattle.elements.specs.declared.group_identity_downlink.OptionalDownlinks.{OptionalDownlinks}
 use Rattle.bits.specs.declared.pdu_parse_error.PduParseErr.{PduParseErr}
 
@@ -47,10 +47,10 @@ pub empty_tail : (b : Bool) → Tail (empty_table b)
 empty_tail true = local_tail closing-local
 empty_tail false = search local·rules
 
-module _ {G L : Type 0} {k : Groups G L} (s : Sound k) (i : ℕ) where
+module _ {G L : Type 0} (k : Groups G L) (s : Local k.group) (i : ℕ) where
   nested_slot_tail : (b : Bool) → Tail (nested_slot_if k i b)
   unfolding nested_slot
-  nested_slot_tail true = bind_tail (slot (λ i. i) (λ i. list k) i) _ (slot_tail (λ i. i) (λ i. list k) (λ j n. list-local s n) i) (λ o. search local·rules)
+  nested_slot_tail true = bind_tail (slot (λ i. i) (λ i. list k) i) _ (slot_tail (λ i. i) (λ i. list k) (λ j n. list-local k s n) i) (λ o. search local·rules)
   nested_slot_tail false = search local·rules
 
   module _ {os : List ℕ} {c : Cursor} where
@@ -118,24 +118,15 @@ downlinks_slot_lem i = λ j bs.
 -- ## a slot of a message's table: its content is what r gives, made into an element
 
 module _ {A B : Type 0} (kind : Kind) (r : ℕ → Reader A) (is : A → Element) (out : Element → B) (made : content_of kind ≡ (λ n. r n >>= λ a. got (is a)))
-    {i : ℕ} {os : List ℕ} {c c₁ : Cursor} (t : Gives opening os c (placed (Some i) c₁)) where
-  pub row-there : {x : Placed B} → Gives (sized (λ n. r n >>= λ a. got (out (is a)))) os c₁ x
-      → Gives (slot identifier_of content (row i kind) >>= λ o. got (out (held_element o))) os c x
+    (i : ℕ) {os : List ℕ} {c : Cursor} {n : ℕ} {c₁ : Cursor} (e : Gives (slot_front i) os c (placed (Some n) c₁)) where
+  row-there : {x : Placed B} → Gives (r n >>= λ a. got (out (is a))) os c₁ x → Gives (slot identifier_of content (row i kind) >>= λ o. got (out (held_element o))) os c x
   row-there g =
-      slot-there identifier_of content (row i kind) _ t refl
-      (alike (sized (λ n. r n >>= λ a. got (out (is a)))) (rw made (sized-made r is out (window os c₁))) g)
+      front-there identifier_of content (row i kind) _ e
+      (alike (r n >>= λ a. got (out (is a))) (rw made (then-then (r n (window os c₁)) _ _)) g)
 
-  -- from its length on, one after the other
-  pub row_no_length : {n : PduParseErr} → Gives (field length_width) os c₁ (halted n) → Gives (slot identifier_of content (row i kind) >>= λ o. got (out (held_element o))) os c (halted n)
-  row_no_length g = row-there (stop _ g)
+  pub row-refused : {m : PduParseErr} → Gives (r n) os c₁ (halted m) → Gives (slot identifier_of content (row i kind) >>= λ o. got (out (held_element o))) os c (halted m)
+  row-refused g = row-there (stop _ g)
 
-  module _ {n : ℕ} {c₂ : Cursor} (e₂ : Gives (field length_width) os c₁ (placed n c₂)) where
-    behind-length : {x : Placed B} → Gives (r n >>= λ a. got (out (is a))) os c₂ x → Gives (slot identifier_of content (row i kind) >>= λ o. got (out (held_element o))) os c x
-    behind-length g = row-there (step _ e₂ (local_tail (field-local length_width)) g)
-
-    pub row-refused : {m : PduParseErr} → Gives (r n) os c₂ (halted m) → Gives (slot identifier_of content (row i kind) >>= λ o. got (out (held_element o))) os c (halted m)
-    row-refused g = behind-length (stop _ g)
-
-    pub row_read : {a : A} {c₃ : Cursor} → Tail (r n) → Gives (r n) os c₂ (placed a c₃)
-        → Gives (slot identifier_of content (row i kind) >>= λ o. got (out (held_element o))) os c (placed (out (is a)) c₃)
-    row_read tail g = behind-length (step _ g tail done)
+  pub row_read : {a : A} {c₂ : Cursor} → Tail (r n) → Gives (r n) os c₁ (placed a c₂)
+      → Gives (slot identifier_of content (row i kind) >>= λ o. got (out (held_element o))) os c (placed (out (is a)) c₂)
+  row_read tail g = row-there (step _ g tail done)

@@ -18,11 +18,12 @@ use Rattle.bits.specs.declared.bitbuffer.Cursor.{Cursor}
 use Rattle.elements.specs.Numbers.{flag_width}
 use Rattle.elements.specs.Table.{identifier_width, length_width, Look, outside, ends, opens, look, Header, header, used_of, whole, Piece, piece, onward, pieces, counted, is_listed, slot, slot_at, skip}
 use Rattle.elements.proofs.NumbersLaws.{never}
-use Rattle.elements.proofs.TableLaws.{Halts, at_end, at-stop, pieces_unfold, pieces-halts, pieces-got, stands_shrinks, slot_tail, skip_tail}
+use Rattle.elements.proofs.TableLaws.{two_slots, Halts, at_end, at-stop, pieces_unfold, pieces-halts, pieces-got, stands_shrinks, slot_tail, skip_tail}
 use Rattle.elements.specs.Kinds.{Slot, Element, identifier_of, content}
 use Rattle.elements.proofs.KindsLaws.{content-local}
 use Rattle.elements.specs.Rows.{sized, skipping, generic_row, generic_in, generic_slot, generics, slots_in}
 use Rattle.elements.specs.Answers.{opening}
+use Rattle.elements.specs.Fronts.{slot_front}
 use Rattle.elements.specs.declared.typed_pdu_fields.Generic.{Generic}
 use Rattle.elements.specs.declared.typed_pdu_fields.Row.{Row}
 use Rattle.elements.specs.declared.typed_pdu_fields.Slots.{Slots}
@@ -162,6 +163,39 @@ module _ {S A B : Type 0} (identifier : S → ℕ) (content : S → ℕ → Read
         size = ap (λ (z : Answer A). then (then z (λ a. got (Some a))) f) (then-then y _ _) ∙ then-then (then y (content s)) _ _
 
 -- a reader, with nothing behind it
+slot_front_tail : (i : ℕ) → Tail (slot_front i)
+unfolding slot_front
+slot_front_tail i = slot_tail (λ i. i) (λ i n. got n) (λ j n. search local·rules) i
+
+-- THE SLOT IN TWO PARTS: its front, and the content behind it
+module _ {S A B : Type 0} (identifier : S → ℕ) (content : S → ℕ → Reader A) (s : S) (f : Option A → Reader B) where
+  abbrev behind_front : Option ℕ → Reader B
+  behind_front None = f None
+  behind_front (Some n) = content s n >>= λ a. f (Some a)
+
+  slot-parted : (bs : Bits) → (slot identifier content s >>= f) bs ≡ (slot_front (identifier s) >>= behind_front) bs
+  unfolding slot_front
+  slot-parted bs =
+      two_slots identifier content s (λ i. i) (λ i n. got n) (identifier s) refl (λ r q. then (r bs) f ≡ then (q bs) behind_front)
+      refl refl (look bs) (λ l. there (header bs))
+    where
+      there : (y : Answer Header) → then (then (then y (λ h. content s h.size)) (λ a. got (Some a))) f
+          ≡ then (then (then y (λ h. got h.size)) (λ n. got (Some n))) behind_front
+      there (got h rest) = then-then (content s h.size rest) _ _
+      there (refused n) = refl
+
+  module _ {os : List ℕ} {c : Cursor} where
+    pub front-outside : {n : PduParseErr} → Gives (slot_front (identifier s)) os c (halted n) → Gives (slot identifier content s >>= f) os c (halted n)
+    front-outside e = alike (slot_front (identifier s) >>= behind_front) (slot-parted _) (stop _ e)
+
+    pub front-absent : {k : Cursor} → Gives (slot_front (identifier s)) os c (placed None k) → {x : Placed B} → Gives (f None) os k x
+        → Gives (slot identifier content s >>= f) os c x
+    front-absent e g = alike (slot_front (identifier s) >>= behind_front) (slot-parted _) (step _ e (slot_front_tail (identifier s)) g)
+
+    pub front-there : {n : ℕ} {k : Cursor} → Gives (slot_front (identifier s)) os c (placed (Some n) k) → {x : Placed B} → Gives (content s n >>= λ a. f (Some a)) os k x
+        → Gives (slot identifier content s >>= f) os c x
+    front-there e g = alike (slot_front (identifier s) >>= behind_front) (slot-parted _) (step _ e (slot_front_tail (identifier s)) g)
+
 pub alone : {A : Type 0} {r : Reader A} {os : List ℕ} {c : Cursor} {x : Placed A} → Gives (r >>= got) os c x → Gives r os c x
 alone {A} {r} g = alike (r >>= got) (sym (ends-there (r (window _ _)))) g
   where

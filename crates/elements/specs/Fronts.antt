@@ -1,10 +1,14 @@
--- A list of groups in two parts: what stands before its groups, and the groups.
+-- A slot in two parts: what stands before its content, and the content; and a list of groups likewise.
 use Rattle.std.specs.Prelude.{ℕ, Bool, true, false, Option, None, Some}
 use Rattle.bits.specs.Reader.{Reader, got, exactly}
 use Rattle.elements.specs.Table.{slot}
 use Rattle.elements.specs.Generics.{entries}
 use Rattle.elements.specs.Lists.{Groups, list_of, groups_read}
 use Rattle.elements.specs.declared.typed_pdu_fields.ListFront.{ListFront}
+
+-- the length of the element in a slot, if it stands there; its content is left
+unfoldable pub slot_front : ℕ → Reader (Option ℕ)
+slot_front i = slot (λ i. i) (λ i n. got n) i
 
 -- the front of a list of m groups in n bits, and that of a list element of n bits
 abbrev pub front_of : ℕ → ℕ → Reader ListFront

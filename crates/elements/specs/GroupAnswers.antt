@@ -19,11 +19,8 @@ use Rattle.elements.specs.declared.group_identity_location_accept.OptionalLocati
 
 -- ## groups and lists
 
-abbrev pub uplinks_answer : Placed OptionalUplinks → Judged OptionalUplinks
-uplinks_answer = judged (list_of uplinks None)
-
-abbrev pub downlinks_answer : Placed OptionalDownlinks → Judged OptionalDownlinks
-downlinks_answer = judged (list_of downlinks None)
+abbrev pub list_answer : {G L : Type 0} → Groups G L → Placed L → Judged L
+list_answer k = judged (list_of k None)
 
 -- ## structures
 

@@ -24,7 +24,7 @@ pub record Form : Type 0 where
   pub address_extension : Bool
   pub vgssi : Bool
 
-abbrev form : Bool → Bool → Bool → Form
+abbrev pub form : Bool → Bool → Bool → Form
 form g e v = record { gssi = g; address_extension = e; vgssi = v }
 
 -- THE ADDRESS TYPES, 0 first; an uplink of type 3 has no address, and is not written
@@ -33,6 +33,10 @@ uplink_forms = form true false false ∷ form true true false ∷ form false fal
 
 abbrev pub downlink_forms : List Form
 downlink_forms = form true false false ∷ form true true false ∷ form false false true ∷ form true true true ∷ []
+
+-- whether type 3 has all parts
+abbrev pub forms_by : Bool → List Form
+forms_by all = cond all downlink_forms uplink_forms
 
 abbrev pub no_address : Form
 no_address = form false false false

@@ -6,6 +6,7 @@ pub mod ClassOfMs
 pub mod EnergySaving
 pub mod Generics
 pub mod Lists
+pub mod GroupListLaws
 pub mod Locations
 pub mod Kinds
 pub mod Rows

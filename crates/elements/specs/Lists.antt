@@ -53,6 +53,12 @@ pub record Groups (G L : Type 0) : Type 1 where
   pub count : L → ℕ
   pub groups : L → List G
 
+-- a list holds what it is made of
+pub record Made {G L : Type 0} (k : Groups G L) : Type 0 where
+  pub presence : (p : Bool) (n : ℕ) (gs : List G) → k.present (k.make p n gs) ≡ p
+  pub count : (p : Bool) (n : ℕ) (gs : List G) → k.count (k.make p n gs) ≡ n
+  pub groups : (p : Bool) (n : ℕ) (gs : List G) → k.groups (k.make p n gs) ≡ gs
+
 module _ {G L : Type 0} (k : Groups G L) where
   -- the entries, and zeros up to the array's length
   abbrev pub padded : List G → List G

@@ -2,7 +2,7 @@
 ghost use Rattle.std.specs.Prelude.{◌≡◌};
 ghost use Rattle.bits.specs.Placed.{at, as_read};
 ghost use Rattle.elements.specs.Numbers.{type2};
-ghost use Rattle.elements.specs.ClassOfMs.{class_of, class_widths, no_class, class_option, class_of_ms_element};
+ghost use Rattle.elements.specs.ClassOfMs.{class_of, class_fields, class_widths, no_class, class_option, class_of_ms_element};
 ghost use Rattle.elements.specs.ClassOfMs.{split};
 
 use bits::bitbuffer::{Cursor, Read};
@@ -32,6 +32,38 @@ pub struct ClassOfMs {
     pub mac_d_blck: u8,
     pub extended_advanced_link: u8,
     pub d8psk: u8,
+}
+
+impl ClassOfMs {
+    // Its fields in order.
+    pub fn fields(self) -> [u8; 22]
+        ensures { result ≡ class_fields self }
+    {
+        [
+            self.freq_simplex_duplex,
+            self.multislot_phase_mod,
+            self.concurrent_multicarrier,
+            self.voice,
+            self.e2e_encryption_not_supported,
+            self.circuit_mode_data,
+            self.tetra_packet_data,
+            self.fast_switching,
+            self.dck_encryption,
+            self.clch_needed,
+            self.concurrent_circuit_mode,
+            self.original_advanced_link,
+            self.minimum_mode,
+            self.carrier_specific_signalling,
+            self.authentication,
+            self.sck_encryption,
+            self.air_interface_version,
+            self.common_scch,
+            self.reserved_21,
+            self.mac_d_blck,
+            self.extended_advanced_link,
+            self.d8psk,
+        ]
+    }
 }
 
 #[repr(C)]

@@ -1,7 +1,7 @@
 // The address of a group (EN 300 392-2, clauses 16.10.22 and 16.10.27): the parts that its address type has.
 ghost use Rattle.std.specs.Prelude.{◌≡◌};
 ghost use Rattle.bits.specs.Placed.{at, as_read};
-ghost use Rattle.elements.specs.Groups.{address_of, uplink_address, downlink_address};
+ghost use Rattle.elements.specs.Groups.{address_of, forms_by, typed_address};
 
 use crate::typed_pdu_fields::read_optional;
 use bits::bitbuffer::{Cursor, Read};
@@ -37,28 +37,15 @@ fn read_parts(
     ))
 }
 
-// An uplink group's address: type 3 has none.
-pub fn read_uplink_address(c: Cursor, octets: &[u8]) -> Read<GroupAddress>
-    ensures { as_read result ≡ at uplink_address octets.now c }
+// A group's address: `all` says whether type 3 has all parts, as in a downlink group, or none, as in an uplink one.
+pub fn read_address(c: Cursor, octets: &[u8], all: bool) -> Read<GroupAddress>
+    ensures { as_read result ≡ at (typed_address (forms_by all)) octets.now c }
 {
     let (address_type, c1) = c.read::<u8>(octets, 2)?;
     match address_type {
         0 => read_parts(c1, octets, true, false, false),
         1 => read_parts(c1, octets, true, true, false),
         2 => read_parts(c1, octets, false, false, true),
-        _ => read_parts(c1, octets, false, false, false),
-    }
-}
-
-// A downlink group's address: type 3 has all parts.
-pub fn read_downlink_address(c: Cursor, octets: &[u8]) -> Read<GroupAddress>
-    ensures { as_read result ≡ at downlink_address octets.now c }
-{
-    let (address_type, c1) = c.read::<u8>(octets, 2)?;
-    match address_type {
-        0 => read_parts(c1, octets, true, false, false),
-        1 => read_parts(c1, octets, true, true, false),
-        2 => read_parts(c1, octets, false, false, true),
-        _ => read_parts(c1, octets, true, true, true),
+        _ => read_parts(c1, octets, all, all, all),
     }
 }

@@ -1,17 +1,17 @@
 // Group identity downlink (EN 300 392-2, clause 16.10.22).
-ghost use Rattle.std.specs.Prelude.{◌≡◌, None};
-ghost use Rattle.bits.specs.Placed.{at, as_read, halted};
+ghost use Rattle.std.specs.Prelude.{◌≡◌};
+ghost use Rattle.bits.specs.Placed.{at, as_read};
 ghost use Rattle.elements.specs.Groups.{downlink, downlink_of, downlink_address_in};
-ghost use Rattle.elements.specs.Lists.{downlinks, list_of};
-ghost use Rattle.elements.specs.GroupAnswers.{downlinks_answer, nested_slot_if};
+ghost use Rattle.elements.specs.GroupListLaws.{downlink-local, downlinks-made};
+ghost use Rattle.elements.specs.Lists.{downlinks};
 
-use crate::group_address::{GroupAddress, read_downlink_address};
+use crate::group_address::{GroupAddress, read_address};
 use crate::group_identity_attachment::{
     GroupIdentityAttachment, NO_ATTACHMENT, read_optional_attachment,
 };
-use crate::typed_pdu_fields::{Judged, read_list_front, read_optional};
+use crate::group_list::GroupList;
+use crate::typed_pdu_fields::read_optional;
 use bits::bitbuffer::{Cursor, Read};
-use bits::pdu_parse_error::PduParseErr;
 
 // Flat and without padding, as the uplink group.
 #[repr(C)]
@@ -50,27 +50,6 @@ const ZERO: GroupIdentityDownlink = GroupIdentityDownlink {
     address_extension_present: false,
     vgssi_present: false,
 };
-
-pub fn no_downlinks() -> OptionalDownlinks
-    ensures { result ≡ list_of downlinks None }
-{
-    let groups = [ZERO; 63];
-    OptionalDownlinks {
-        present: false,
-        count: 0,
-        groups: groups,
-    }
-}
-
-// A refusal, and an absent list beside it.
-fn refused(e: PduParseErr) -> Judged<OptionalDownlinks>
-    ensures { result ≡ downlinks_answer (halted e) }
-{
-    Judged {
-        verdict: Err(e),
-        value: no_downlinks(),
-    }
-}
 
 impl OptionalDownlinks {
     // The same, taken part by part: taken whole, what stands behind `present` is copied off its alignment.
@@ -131,7 +110,7 @@ impl GroupIdentityDownlink {
             return Err(t.unwrap_err());
         };
         let (detachment, c3) = read_optional(c2, octets, kind == 1, 2)?;
-        let a = read_downlink_address(c3, octets);
+        let a = read_address(c3, octets, true);
         let Ok((address, c4)) = a else {
             return Err(a.unwrap_err());
         };
@@ -139,61 +118,30 @@ impl GroupIdentityDownlink {
     }
 }
 
-// The slot of a list of groups, where there is such a slot: the list has to end where its length said. A list without groups is
-// given at once: an array that nothing is put into needn't be copied. The cursor is handed on number by number, as the caller just
-// stored it: copied as a whole, it would wait for both.
-pub fn read_downlinks_slot(
-    c: Cursor,
-    octets: &[u8],
-    there: bool,
-    identifier: u8,
-) -> Judged<OptionalDownlinks>
-    ensures { result ≡ downlinks_answer (at (nested_slot_if downlinks identifier there) octets.now c) }
-{
-    let from = Cursor {
-        at: c.at,
-        end: c.end,
-    };
-    let l = read_list_front(from, octets, there, identifier);
-    let Ok((front, first)) = l else {
-        return refused(l.unwrap_err());
-    };
-    let Some(front) = front else {
-        return Judged {
-            verdict: Ok(first),
-            value: no_downlinks(),
-        };
-    };
-    if (front.count == 0) & (front.len == 0) {
-        let none = [ZERO; 63];
-        return Judged {
-            verdict: Ok(first),
-            value: OptionalDownlinks {
-                present: true,
-                count: 0,
-                groups: none,
-            },
-        };
+impl GroupList for OptionalDownlinks {
+    type Group = GroupIdentityDownlink;
+
+    ghost kind = { downlinks };
+
+    ghost local = { downlink-local };
+
+    ghost made = { downlinks-made };
+
+    fn zeros(present: bool, count: usize) -> OptionalDownlinks {
+        OptionalDownlinks {
+            present,
+            count,
+            groups: [ZERO; 63],
+        }
     }
-    let mut groups = [ZERO; 63];
-    let mut place = first;
-    for i in 0..front.count {
-        let f = GroupIdentityDownlink::from_bitbuf(place, octets);
-        let Ok((g, next)) = f else {
-            return refused(f.unwrap_err());
-        };
-        groups[i] = g;
-        place = next;
+
+    fn put(&mut self, i: usize, g: GroupIdentityDownlink) {
+        if i < self.groups.len() {
+            self.groups[i] = g;
+        }
     }
-    if place.at - first.at == front.len {
-        return Judged {
-            verdict: Ok(place),
-            value: OptionalDownlinks {
-                present: true,
-                count: front.count,
-                groups,
-            },
-        };
+
+    fn read_group(c: Cursor, octets: &[u8]) -> Read<GroupIdentityDownlink> {
+        GroupIdentityDownlink::from_bitbuf(c, octets)
     }
-    refused(PduParseErr::InconsistentLength)
 }

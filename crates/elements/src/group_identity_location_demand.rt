@@ -5,9 +5,10 @@ ghost use Rattle.elements.specs.Locations.{location_demand, no_location_demand};
 ghost use Rattle.elements.specs.Kinds.{absent_location_demand};
 ghost use Rattle.elements.specs.GroupAnswers.{location_demand_answer, location_demand_slot, location_demand_slot_answer};
 
-use crate::group_identity_uplink::{OptionalUplinks, no_uplinks, read_uplinks_slot};
+use crate::group_identity_uplink::OptionalUplinks;
+use crate::group_list::{no_list, read_nested};
 use crate::type34_elem_id_ul::GROUP_IDENTITY_UPLINK;
-use crate::typed_pdu_fields::{Judged, peek_type34_mbit_and_id, read_empty_table};
+use crate::typed_pdu_fields::{Judged, read_slot_front};
 use bits::bitbuffer::{Cursor, Moved};
 use bits::pdu_parse_error::PduParseErr;
 
@@ -30,7 +31,7 @@ pub fn no_location_demand() -> GroupIdentityLocationDemand
 {
     GroupIdentityLocationDemand {
         group_identity_attach_detach_mode: 0,
-        group_identity_uplink: no_uplinks(),
+        group_identity_uplink: no_list(),
     }
 }
 
@@ -91,23 +92,15 @@ impl GroupIdentityLocationDemand {
         let Ok((mode, c2)) = m else {
             return refused(m.unwrap_err());
         };
-        let o = c2.read::<u8>(octets, 1);
-        let Ok((obit, c3)) = o else {
-            return refused(o.unwrap_err());
-        };
-        let r = read_uplinks_slot(c3, octets, obit == 1, GROUP_IDENTITY_UPLINK);
+        let r = read_nested::<OptionalUplinks>(c2, octets, GROUP_IDENTITY_UPLINK);
         let v = r.verdict;
-        let Ok(c4) = v else {
+        let Ok(c3) = v else {
             return refused(v.unwrap_err());
         };
-        let e = read_empty_table(c4, octets, obit == 1);
-        let Ok(c5) = e else {
-            return refused(e.unwrap_err());
-        };
-        if c5.at - c.at == len {
+        if c3.at - c.at == len {
             let list = r.value;
             return Judged {
-                verdict: Ok(c5),
+                verdict: Ok(c3),
                 value: GroupIdentityLocationDemand {
                     group_identity_attach_detach_mode: mode,
                     group_identity_uplink: list.part_by_part(),
@@ -126,28 +119,24 @@ pub fn read_location_demand_slot(
 ) -> Judged<OptionalLocationDemand>
     ensures { result ≡ location_demand_slot_answer (at (location_demand_slot identifier) octets.now c) }
 {
-    let l = peek_type34_mbit_and_id(c, octets);
-    let Ok((id, c1)) = l else {
-        return absent(Err(l.unwrap_err()));
+    let f = read_slot_front(c, octets, identifier);
+    let Ok((front, c1)) = f else {
+        return absent(Err(f.unwrap_err()));
     };
-    if id == Some(identifier) {
-        let f = c1.read::<u64>(octets, 11);
-        let Ok((len, c2)) = f else {
-            return absent(Err(f.unwrap_err()));
-        };
-        let r = GroupIdentityLocationDemand::from_bitbuf(c2, octets, len as usize);
-        let v = r.verdict;
-        let Ok(c3) = v else {
-            return absent(v);
-        };
-        let location = r.value;
-        return Judged {
-            verdict: Ok(c3),
-            value: OptionalLocationDemand {
-                present: true,
-                value: location,
-            },
-        };
+    let Some(len) = front else {
+        return absent(Ok(c1));
+    };
+    let r = GroupIdentityLocationDemand::from_bitbuf(c1, octets, len);
+    let v = r.verdict;
+    let Ok(c2) = v else {
+        return absent(v);
+    };
+    let location = r.value;
+    Judged {
+        verdict: Ok(c2),
+        value: OptionalLocationDemand {
+            present: true,
+            value: location,
+        },
     }
-    absent(Ok(c))
 }

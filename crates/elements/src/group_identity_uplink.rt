@@ -1,14 +1,14 @@
 // Group identity uplink (EN 300 392-2, clause 16.10.27).
-ghost use Rattle.std.specs.Prelude.{◌≡◌, None};
-ghost use Rattle.bits.specs.Placed.{at, as_read, halted};
+ghost use Rattle.std.specs.Prelude.{◌≡◌};
+ghost use Rattle.bits.specs.Placed.{at, as_read};
 ghost use Rattle.elements.specs.Groups.{uplink, uplink_of, uplink_address_in};
-ghost use Rattle.elements.specs.Lists.{uplinks, list_of};
-ghost use Rattle.elements.specs.GroupAnswers.{uplinks_answer, nested_slot_if};
+ghost use Rattle.elements.specs.GroupListLaws.{uplink-local, uplinks-made};
+ghost use Rattle.elements.specs.Lists.{uplinks};
 
-use crate::group_address::{GroupAddress, read_uplink_address};
-use crate::typed_pdu_fields::{Judged, read_list_front, read_optional};
+use crate::group_address::{GroupAddress, read_address};
+use crate::group_list::GroupList;
+use crate::typed_pdu_fields::read_optional;
 use bits::bitbuffer::{Cursor, Read};
-use bits::pdu_parse_error::PduParseErr;
 
 // Flat and without padding, the widest fields first: a list has 63 of them, and is cleared as one block.
 #[repr(C)]
@@ -47,27 +47,6 @@ const ZERO: GroupIdentityUplink = GroupIdentityUplink {
     address_extension_present: false,
     vgssi_present: false,
 };
-
-pub fn no_uplinks() -> OptionalUplinks
-    ensures { result ≡ list_of uplinks None }
-{
-    let groups = [ZERO; 63];
-    OptionalUplinks {
-        present: false,
-        count: 0,
-        groups: groups,
-    }
-}
-
-// A refusal, and an absent list beside it.
-fn refused(e: PduParseErr) -> Judged<OptionalUplinks>
-    ensures { result ≡ uplinks_answer (halted e) }
-{
-    Judged {
-        verdict: Err(e),
-        value: no_uplinks(),
-    }
-}
 
 impl OptionalUplinks {
     // The same, taken part by part: taken whole, what stands behind `present` is copied off its alignment.
@@ -125,7 +104,7 @@ impl GroupIdentityUplink {
         let (kind, c1) = c.read::<u8>(octets, 1)?;
         let (class_of_usage, c2) = read_optional(c1, octets, kind == 0, 3)?;
         let (detachment, c3) = read_optional(c2, octets, kind == 1, 2)?;
-        let a = read_uplink_address(c3, octets);
+        let a = read_address(c3, octets, false);
         let Ok((address, c4)) = a else {
             return Err(a.unwrap_err());
         };
@@ -133,61 +112,30 @@ impl GroupIdentityUplink {
     }
 }
 
-// The slot of a list of groups, where there is such a slot: the list has to end where its length said. A list without groups is
-// given at once: an array that nothing is put into needn't be copied. The cursor is handed on number by number, as the caller just
-// stored it: copied as a whole, it would wait for both.
-pub fn read_uplinks_slot(
-    c: Cursor,
-    octets: &[u8],
-    there: bool,
-    identifier: u8,
-) -> Judged<OptionalUplinks>
-    ensures { result ≡ uplinks_answer (at (nested_slot_if uplinks identifier there) octets.now c) }
-{
-    let from = Cursor {
-        at: c.at,
-        end: c.end,
-    };
-    let l = read_list_front(from, octets, there, identifier);
-    let Ok((front, first)) = l else {
-        return refused(l.unwrap_err());
-    };
-    let Some(front) = front else {
-        return Judged {
-            verdict: Ok(first),
-            value: no_uplinks(),
-        };
-    };
-    if (front.count == 0) & (front.len == 0) {
-        let none = [ZERO; 63];
-        return Judged {
-            verdict: Ok(first),
-            value: OptionalUplinks {
-                present: true,
-                count: 0,
-                groups: none,
-            },
-        };
+impl GroupList for OptionalUplinks {
+    type Group = GroupIdentityUplink;
+
+    ghost kind = { uplinks };
+
+    ghost local = { uplink-local };
+
+    ghost made = { uplinks-made };
+
+    fn zeros(present: bool, count: usize) -> OptionalUplinks {
+        OptionalUplinks {
+            present,
+            count,
+            groups: [ZERO; 63],
+        }
     }
-    let mut groups = [ZERO; 63];
-    let mut place = first;
-    for i in 0..front.count {
-        let f = GroupIdentityUplink::from_bitbuf(place, octets);
-        let Ok((g, next)) = f else {
-            return refused(f.unwrap_err());
-        };
-        groups[i] = g;
-        place = next;
+
+    fn put(&mut self, i: usize, g: GroupIdentityUplink) {
+        if i < self.groups.len() {
+            self.groups[i] = g;
+        }
     }
-    if place.at - first.at == front.len {
-        return Judged {
-            verdict: Ok(place),
-            value: OptionalUplinks {
-                present: true,
-                count: front.count,
-                groups,
-            },
-        };
+
+    fn read_group(c: Cursor, octets: &[u8]) -> Read<GroupIdentityUplink> {
+        GroupIdentityUplink::from_bitbuf(c, octets)
     }
-    refused(PduParseErr::InconsistentLength)
 }

@@ -10,6 +10,7 @@ pub mod group_identity_downlink;
 pub mod group_identity_location_accept;
 pub mod group_identity_location_demand;
 pub mod group_identity_uplink;
+pub mod group_list;
 pub mod location_update_type;
 pub mod mm_pdu_type_dl;
 pub mod mm_pdu_type_ul;

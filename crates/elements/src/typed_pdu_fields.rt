@@ -3,13 +3,13 @@
 ghost use Rattle.std.specs.Prelude.{◌≡◌, ◌-◌, ◌≤◌, true, option_map, length, Some, None};
 ghost use Rattle.bits.specs.Reader.{word, optional};
 ghost use Rattle.bits.specs.Placed.{window, at, as_by, as_read, as_moved, halted};
-ghost use Rattle.elements.specs.Numbers.{u8_of, u64_of, type2};
+ghost use Rattle.elements.specs.Numbers.{u8_of, in_u8, u64_of, in_u64, type2};
 ghost use Rattle.elements.specs.Generics.{kept};
 ghost use Rattle.elements.specs.Table.{look, closing, is_listed};
 ghost use Rattle.elements.specs.Kinds.{identifier_of};
 ghost use Rattle.elements.specs.Rows.{rows_of, slots_from, elsewhere, skipping, table_end, empty_table, behind_part, part, sized, generic_type3_at, generic_type4_at, generic_slot, type3_from, type4_from};
 ghost use Rattle.elements.specs.Answers.{opening, slots_answer};
-ghost use Rattle.elements.specs.Fronts.{list_front};
+ghost use Rattle.elements.specs.Fronts.{slot_front, list_front};
 
 use bits::bitbuffer::{Cursor, Moved, Number, Read};
 use bits::pdu_parse_error::PduParseErr;
@@ -53,6 +53,22 @@ impl From<Option<u64>> for OptionalU64 {
             present: o.is_some(),
             value: o.unwrap_or(0),
         }
+    }
+}
+
+impl From<OptionalU8> for Option<u8> {
+    ghost from_gives = { λ o r. r ≡ in_u8 o };
+
+    fn from(o: OptionalU8) -> Option<u8> {
+        o.present.then_some(o.value)
+    }
+}
+
+impl From<OptionalU64> for Option<u64> {
+    ghost from_gives = { λ o r. r ≡ in_u64 o };
+
+    fn from(o: OptionalU64) -> Option<u64> {
+        o.present.then_some(o.value)
     }
 }
 
@@ -248,6 +264,18 @@ pub struct ListFront {
     pub len: usize,
 }
 
+// The length of the element with this identifier, if it stands here; its content is left.
+pub fn read_slot_front(c: Cursor, octets: &[u8], identifier: u8) -> Read<Option<usize>>
+    ensures { as_read result ≡ at (slot_front identifier) octets.now c }
+{
+    let (id, c1) = peek_type34_mbit_and_id(c, octets)?;
+    if id == Some(identifier) {
+        let (len, c2) = c1.read::<u64>(octets, 11)?;
+        return Ok((Some(len as usize), c2));
+    }
+    Ok((None, c))
+}
+
 // The slot of a list of groups up to the first of them, where there is such a slot.
 pub fn read_list_front(
     c: Cursor,
@@ -257,24 +285,24 @@ pub fn read_list_front(
 ) -> Read<Option<ListFront>>
     ensures { as_read result ≡ at (list_front identifier there) octets.now c }
 {
-    if there {
-        let (id, c1) = peek_type34_mbit_and_id(c, octets)?;
-        if id == Some(identifier) {
-            let (size, c2) = c1.read::<u64>(octets, 11)?;
-            let (elems, c3) = c2.read::<u8>(octets, 6)?;
-            if size < 6 {
-                return Err(PduParseErr::Type4Underflow);
-            }
-            return Ok((
-                Some(ListFront {
-                    count: elems as usize,
-                    len: size as usize - 6,
-                }),
-                c3,
-            ));
-        }
+    if !there {
+        return Ok((None, c));
     }
-    Ok((None, c))
+    let (front, c1) = read_slot_front(c, octets, identifier)?;
+    let Some(size) = front else {
+        return Ok((None, c1));
+    };
+    let (count, c2) = c1.read::<u8>(octets, 6)?;
+    if size < 6 {
+        return Err(PduParseErr::Type4Underflow);
+    }
+    Ok((
+        Some(ListFront {
+            count: count as usize,
+            len: size - 6,
+        }),
+        c2,
+    ))
 }
 
 // The kind of element that a listed identifier opens.

@@ -7,7 +7,6 @@ ghost use Rattle.messages.specs.Calls.{message_of};
 ghost use Rattle.exports.specs.Flat.{flat_field, flat_option, flat_type3, flat_type4, flat_class, flat_saving, flat_address, flat_attachment, flat_uplink, flat_downlink, flat_list, flat_location_demand, flat_location_accept, flat_demand_head, flat_demand_options, flat_demand_generics, flat_accept_head, flat_accept_front, flat_accept_generics, flat_attach_detach_head, flat_form, shown, shown_uplinks, shown_downlinks};
 ghost use Rattle.exports.specs.FlatLaws.{Put};
 
-use element_writers::class_of_ms::fields_of;
 use elements::class_of_ms::OptionalClassOfMs;
 use elements::energy_saving_information::OptionalEnergySavingInformation;
 use elements::group_address::GroupAddress;
@@ -73,7 +72,7 @@ fn put_class(flat: &mut [u8], at: usize, o: OptionalClassOfMs) -> usize
     ensures { Put flat.old at (flat_class o) flat.new result }
 {
     let mut place = put_flag(flat, at, o.present);
-    let values = fields_of(o.value);
+    let values = o.value.fields();
     for value in &values {
         place = put_field(flat, place, o.present, *value as u64);
     }

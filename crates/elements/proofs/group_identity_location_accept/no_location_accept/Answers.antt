@@ -2,4 +2,4 @@
 use Rattle.elements.proofs.group_identity_location_accept.no_location_accept.Goals as goal
 
 pub returns : goal.returns
-returns c = rw c.no_downlinks.ensures
+returns c = rw c.no_list.ensures

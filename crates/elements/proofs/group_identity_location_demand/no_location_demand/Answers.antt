@@ -2,4 +2,4 @@
 use Rattle.elements.proofs.group_identity_location_demand.no_location_demand.Goals as goal
 
 pub returns : goal.returns
-returns c = rw c.no_uplinks.ensures
+returns c = rw c.no_list.ensures

@@ -4,8 +4,8 @@ use Rattle.std.proofs.Common.{sym}
 use Rattle.bits.specs.Reader.{word}
 use Rattle.bits.specs.ReaderLaws.{local·rules, local_tail, optional-local}
 use Rattle.bits.specs.PlacedLaws.{so, from, refused_by, handed_up, step, stop}
-use Rattle.elements.specs.Groups.{downlink}
-use Rattle.elements.proofs.GroupsLaws.{attachment_info-local, downlink_address-local}
+use Rattle.elements.specs.Groups.{downlink, downlink_address}
+use Rattle.elements.specs.GroupListLaws.{attachment_info-local, downlink_address-local}
 use Rattle.elements.proofs.PlacedOptional.{from-option, ends}
 use Rattle.elements.proofs.group_identity_downlink.GroupIdentityDownlink.from_bitbuf.Goals as goal
 
@@ -28,16 +28,16 @@ returns-in_err-detachment c =
     (step _ (from c.in-Ok.ensures) (local_tail (optional-local Some None _ _ attachment_info-local)) (stop _ (from c.in_err-detachment.ensures))))
 
 pub returns-in_default-a : goal.returns-in_default-a
-unfolding word downlink
+unfolding word downlink downlink_address
 returns-in_default-a c =
     so
     (step _ (from c.in_ok-kind.ensures) (search local·rules)
     (step _ (from c.in-Ok.ensures) (local_tail (optional-local Some None _ _ attachment_info-local))
     (step _ (from-option c.in_ok-detachment.ensures) (search local·rules)
-    (stop _ (refused_by c.read_downlink_address-a.ensures c.unwrap_err-in_default-a.ensures)))))
+    (stop _ (refused_by c.read_address-a.ensures c.unwrap_err-in_default-a.ensures)))))
 
 pub returns : goal.returns
-unfolding word downlink
+unfolding word downlink downlink_address
 returns c =
     so
     (step _ (from c.in_ok-kind.ensures) (search local·rules)

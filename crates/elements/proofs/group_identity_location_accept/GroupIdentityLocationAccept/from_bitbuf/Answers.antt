@@ -11,12 +11,12 @@ use Rattle.elements.specs.Lists.{downlinks}
 use Rattle.elements.proofs.ListsLaws.{downlinks_sound}
 use Rattle.elements.specs.Locations.{nested, group_identity_downlink_identifier, accept_body, location_accept}
 use Rattle.elements.proofs.LocationsLaws.{accept_of, accept_laws}
-use Rattle.elements.specs.GroupAnswers.{nested_slot_if, location_accept_answer}
+use Rattle.elements.specs.GroupAnswers.{location_accept_answer}
 use Rattle.elements.proofs.Verdicts.{answer, verdict_to, verdict_refused}
-use Rattle.elements.proofs.PlacedLocations.{list_unannounced, list-refused, list_unclosed, list-closed, structure-refused, structure-on, structure-whole, structure-inexact}
+use Rattle.elements.proofs.PlacedLocations.{structure-refused, structure-on, structure-whole, structure-inexact}
 use Rattle.elements.specs.declared.group_identity_location_accept.GroupIdentityLocationAccept.{GroupIdentityLocationAccept}
 use Rattle.elements.proofs.group_identity_location_accept.GroupIdentityLocationAccept.from_bitbuf.Goals as goal
-use Rattle.elements.proofs.group_identity_location_accept.GroupIdentityLocationAccept.from_bitbuf.Goals.{In-Ok-p, In-Ok-v, In-Ok-e}
+use Rattle.elements.proofs.group_identity_location_accept.GroupIdentityLocationAccept.from_bitbuf.Goals.{In-Ok-p, In-Ok-v}
 
 -- the answer is read, and the reserved bit passed: behind them stands the list
 list-behind : (c : In-Ok-p) (x : Placed GroupIdentityLocationAccept) → let a = c.args in
@@ -25,14 +25,9 @@ list-behind : (c : In-Ok-p) (x : Placed GroupIdentityLocationAccept) → let a =
 unfolding word accept_body
 list-behind c x g = step _ (from c.in-Ok.ensures) (search local·rules) (step _ (from c.in-Ok-p.ensures) (search local·rules) g)
 
--- the list's slot, and with the closing M-bit the list
-listed : (c : In-Ok-v) → Gives (nested_slot_if downlinks group_identity_downlink_identifier (eqb c.in-Ok-o.obit 1)) c.args.octets.now c.in-Ok-o.c3 (placed c.read_downlinks_slot-r.result.value c.in-Ok-v.c4)
-listed c = verdict_to _ c.read_downlinks_slot-r.ensures c.in-Ok-v.is
-
-closed : (c : In-Ok-e) → Gives (nested downlinks group_identity_downlink_identifier) c.args.octets.now c.in-Ok-p.c2 (placed c.read_downlinks_slot-r.result.value c.in-Ok-e.c5)
-unfolding word
-closed c =
-    list-closed downlinks_sound _ (from c.in-Ok-o.ensures) (verdict_to _ c.read_downlinks_slot-r.ensures c.in-Ok-v.is) (from c.in-Ok-e.ensures)
+-- the list, with the closing M-bit
+closed : (c : In-Ok-v) → Gives (nested downlinks group_identity_downlink_identifier) c.args.octets.now c.in-Ok-p.c2 (placed c.read_nested-r.result.value c.in-Ok-v.c3)
+closed c = verdict_to _ c.read_nested-r.ensures c.in-Ok-v.is
 
 pub returns-in_default : goal.returns-in_default
 unfolding word accept_body location_accept
@@ -45,44 +40,29 @@ returns-in_default-p c =
     c.refused-in_default-p.ensures ∙ answer location_accept_answer (exact-stop c.args.len (step _ (from c.in-Ok.ensures) (search local·rules)
     (stop _ (refused_moving c.pass-p.ensures c.unwrap_err-in_default-p.ensures))))
 
-pub returns-in_default-o : goal.returns-in_default-o
-unfolding word location_accept
-returns-in_default-o c =
-    c.refused-in_default-o.ensures ∙ answer location_accept_answer
-    (structure-refused downlinks_sound group_identity_downlink_identifier _ (local_tail accept_laws.body-local) (list-behind ((goal.at.returns-in_default-o c).In-Ok-p)) c.args.len
-    (list_unannounced downlinks_sound _ (refused_by c.read-o.ensures c.unwrap_err-in_default-o.ensures)))
-
 pub returns-in_default-v : goal.returns-in_default-v
-unfolding word location_accept
+unfolding location_accept
 returns-in_default-v c =
     c.refused-in_default-v.ensures ∙ answer location_accept_answer
     (structure-refused downlinks_sound group_identity_downlink_identifier _ (local_tail accept_laws.body-local) (list-behind ((goal.at.returns-in_default-v c).In-Ok-p)) c.args.len
-    (list-refused downlinks_sound _ (from c.in-Ok-o.ensures) (verdict_refused _ c.read_downlinks_slot-r.ensures c.unwrap_err-in_default-v.ensures)))
+    (verdict_refused _ c.read_nested-r.ensures c.unwrap_err-in_default-v.ensures))
 
-pub returns-in_default-e : goal.returns-in_default-e
-unfolding word location_accept
-returns-in_default-e c =
-    c.refused-in_default-e.ensures ∙ answer location_accept_answer
-    (structure-refused downlinks_sound group_identity_downlink_identifier _ (local_tail accept_laws.body-local) (list-behind ((goal.at.returns-in_default-e c).In-Ok-p)) c.args.len
-    (list_unclosed downlinks_sound _ (from c.in-Ok-o.ensures) (listed ((goal.at.returns-in_default-e c).In-Ok-v))
-    (refused_moving c.read_empty_table-e.ensures c.unwrap_err-in_default-e.ensures)))
+pub overflow_sub-c3 : goal.overflow_sub-c3
+overflow_sub-c3 c =
+    structure-on downlinks_sound group_identity_downlink_identifier _ (local_tail accept_laws.body-local) (list-behind ((goal.at.overflow_sub-c3 c).In-Ok-p)) c.args.len
+    (closed ((goal.at.overflow_sub-c3 c).In-Ok-v))
 
-pub overflow_sub-c5 : goal.overflow_sub-c5
-overflow_sub-c5 c =
-    structure-on downlinks_sound group_identity_downlink_identifier _ (local_tail accept_laws.body-local) (list-behind ((goal.at.overflow_sub-c5 c).In-Ok-p)) c.args.len
-    (closed ((goal.at.overflow_sub-c5 c).In-Ok-e))
-
-pub returns-then-c5-c : goal.returns-then-c5-c
+pub returns-then-c3-c : goal.returns-then-c3-c
 unfolding location_accept
-returns-then-c5-c c =
+returns-then-c3-c c =
     rw c.part_by_part.ensures
     (answer location_accept_answer
-    (structure-whole downlinks_sound group_identity_downlink_identifier _ (local_tail accept_laws.body-local) (list-behind ((goal.at.returns-then-c5-c c).In-Ok-p)) c.args.len
-    (closed ((goal.at.returns-then-c5-c c).In-Ok-e)) c.if-c5-c.true))
+    (structure-whole downlinks_sound group_identity_downlink_identifier _ (local_tail accept_laws.body-local) (list-behind ((goal.at.returns-then-c3-c c).In-Ok-p)) c.args.len
+    (closed ((goal.at.returns-then-c3-c c).In-Ok-v)) c.if-c3-c.true))
 
 pub returns : goal.returns
 unfolding location_accept
 returns c =
     c.refused-2.ensures ∙ answer location_accept_answer
     (structure-inexact downlinks_sound group_identity_downlink_identifier _ (local_tail accept_laws.body-local) (list-behind ((goal.at.returns c).In-Ok-p)) c.args.len
-    (closed ((goal.at.returns c).In-Ok-e)) c.if-c5-c.false)
+    (closed ((goal.at.returns c).In-Ok-v)) c.if-c3-c.false)

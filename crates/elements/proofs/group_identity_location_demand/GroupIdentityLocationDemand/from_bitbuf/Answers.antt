@@ -14,12 +14,12 @@ use Rattle.elements.specs.Lists.{uplinks}
 use Rattle.elements.proofs.ListsLaws.{uplinks_sound}
 use Rattle.elements.specs.Locations.{nested, group_identity_uplink_identifier, demand_body, location_demand}
 use Rattle.elements.proofs.LocationsLaws.{demand_of, demand_laws}
-use Rattle.elements.specs.GroupAnswers.{nested_slot_if, location_demand_answer}
+use Rattle.elements.specs.GroupAnswers.{location_demand_answer}
 use Rattle.elements.proofs.Verdicts.{answer, verdict_to, verdict_refused}
-use Rattle.elements.proofs.PlacedLocations.{list_unannounced, list-refused, list_unclosed, list-closed, structure-refused, structure-on, structure-whole, structure-inexact}
+use Rattle.elements.proofs.PlacedLocations.{structure-refused, structure-on, structure-whole, structure-inexact}
 use Rattle.elements.specs.declared.group_identity_location_demand.GroupIdentityLocationDemand.{GroupIdentityLocationDemand}
 use Rattle.elements.proofs.group_identity_location_demand.GroupIdentityLocationDemand.from_bitbuf.Goals as goal
-use Rattle.elements.proofs.group_identity_location_demand.GroupIdentityLocationDemand.from_bitbuf.Goals.{In-Ok-m, In-Ok-v, In-Ok-e}
+use Rattle.elements.proofs.group_identity_location_demand.GroupIdentityLocationDemand.from_bitbuf.Goals.{In-Ok-m, In-Ok-v}
 
 module _ {os : List ℕ} {c c₁ : Cursor} {r : ℕ} (e : Gives (field flag_width) os c (placed r c₁)) where
   -- the reserved bit is not 0
@@ -42,14 +42,9 @@ list-behind c x g =
     let unset : c.in-Ok.reserved ≤ 0 = omega (arith, c.if-reserved-gt0.false) in
     mode-behind (from c.in-Ok.ensures) unset x (step _ (from c.in-Ok-m.ensures) (search local·rules) g)
 
--- the list's slot, and with the closing M-bit the list
-listed : (c : In-Ok-v) → Gives (nested_slot_if uplinks group_identity_uplink_identifier (eqb c.in-Ok-o.obit 1)) c.args.octets.now c.in-Ok-o.c3 (placed c.read_uplinks_slot-r.result.value c.in-Ok-v.c4)
-listed c = verdict_to _ c.read_uplinks_slot-r.ensures c.in-Ok-v.is
-
-closed : (c : In-Ok-e) → Gives (nested uplinks group_identity_uplink_identifier) c.args.octets.now c.in-Ok-m.c2 (placed c.read_uplinks_slot-r.result.value c.in-Ok-e.c5)
-unfolding word
-closed c =
-    list-closed uplinks_sound _ (from c.in-Ok-o.ensures) (verdict_to _ c.read_uplinks_slot-r.ensures c.in-Ok-v.is) (from c.in-Ok-e.ensures)
+-- the list, with the closing M-bit
+closed : (c : In-Ok-v) → Gives (nested uplinks group_identity_uplink_identifier) c.args.octets.now c.in-Ok-m.c2 (placed c.read_nested-r.result.value c.in-Ok-v.c3)
+closed c = verdict_to _ c.read_nested-r.ensures c.in-Ok-v.is
 
 pub returns-in_default : goal.returns-in_default
 unfolding word demand_body location_demand
@@ -69,44 +64,29 @@ returns-in_default-m c =
     c.refused-in_default-m.ensures ∙ answer location_demand_answer (exact-stop c.args.len (mode-behind (from c.in-Ok.ensures) unset _
     (stop _ (refused_by c.read-m.ensures c.unwrap_err-in_default-m.ensures))))
 
-pub returns-in_default-o : goal.returns-in_default-o
-unfolding word location_demand
-returns-in_default-o c =
-    c.refused-in_default-o.ensures ∙ answer location_demand_answer
-    (structure-refused uplinks_sound group_identity_uplink_identifier _ (local_tail demand_laws.body-local) (list-behind ((goal.at.returns-in_default-o c).In-Ok-m)) c.args.len
-    (list_unannounced uplinks_sound _ (refused_by c.read-o.ensures c.unwrap_err-in_default-o.ensures)))
-
 pub returns-in_default-v : goal.returns-in_default-v
-unfolding word location_demand
+unfolding location_demand
 returns-in_default-v c =
     c.refused-in_default-v.ensures ∙ answer location_demand_answer
     (structure-refused uplinks_sound group_identity_uplink_identifier _ (local_tail demand_laws.body-local) (list-behind ((goal.at.returns-in_default-v c).In-Ok-m)) c.args.len
-    (list-refused uplinks_sound _ (from c.in-Ok-o.ensures) (verdict_refused _ c.read_uplinks_slot-r.ensures c.unwrap_err-in_default-v.ensures)))
+    (verdict_refused _ c.read_nested-r.ensures c.unwrap_err-in_default-v.ensures))
 
-pub returns-in_default-e : goal.returns-in_default-e
-unfolding word location_demand
-returns-in_default-e c =
-    c.refused-in_default-e.ensures ∙ answer location_demand_answer
-    (structure-refused uplinks_sound group_identity_uplink_identifier _ (local_tail demand_laws.body-local) (list-behind ((goal.at.returns-in_default-e c).In-Ok-m)) c.args.len
-    (list_unclosed uplinks_sound _ (from c.in-Ok-o.ensures) (listed ((goal.at.returns-in_default-e c).In-Ok-v))
-    (refused_moving c.read_empty_table-e.ensures c.unwrap_err-in_default-e.ensures)))
+pub overflow_sub-c3 : goal.overflow_sub-c3
+overflow_sub-c3 c =
+    structure-on uplinks_sound group_identity_uplink_identifier _ (local_tail demand_laws.body-local) (list-behind ((goal.at.overflow_sub-c3 c).In-Ok-m)) c.args.len
+    (closed ((goal.at.overflow_sub-c3 c).In-Ok-v))
 
-pub overflow_sub-c5 : goal.overflow_sub-c5
-overflow_sub-c5 c =
-    structure-on uplinks_sound group_identity_uplink_identifier _ (local_tail demand_laws.body-local) (list-behind ((goal.at.overflow_sub-c5 c).In-Ok-m)) c.args.len
-    (closed ((goal.at.overflow_sub-c5 c).In-Ok-e))
-
-pub returns-then-c5-c : goal.returns-then-c5-c
+pub returns-then-c3-c : goal.returns-then-c3-c
 unfolding location_demand
-returns-then-c5-c c =
+returns-then-c3-c c =
     rw c.part_by_part.ensures
     (answer location_demand_answer
-    (structure-whole uplinks_sound group_identity_uplink_identifier _ (local_tail demand_laws.body-local) (list-behind ((goal.at.returns-then-c5-c c).In-Ok-m)) c.args.len
-    (closed ((goal.at.returns-then-c5-c c).In-Ok-e)) c.if-c5-c.true))
+    (structure-whole uplinks_sound group_identity_uplink_identifier _ (local_tail demand_laws.body-local) (list-behind ((goal.at.returns-then-c3-c c).In-Ok-m)) c.args.len
+    (closed ((goal.at.returns-then-c3-c c).In-Ok-v)) c.if-c3-c.true))
 
 pub returns : goal.returns
 unfolding location_demand
 returns c =
     c.refused-2.ensures ∙ answer location_demand_answer
     (structure-inexact uplinks_sound group_identity_uplink_identifier _ (local_tail demand_laws.body-local) (list-behind ((goal.at.returns c).In-Ok-m)) c.args.len
-    (closed ((goal.at.returns c).In-Ok-e)) c.if-c5-c.false)
+    (closed ((goal.at.returns c).In-Ok-v)) c.if-c3-c.false)

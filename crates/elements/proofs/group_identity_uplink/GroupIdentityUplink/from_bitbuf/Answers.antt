@@ -3,8 +3,8 @@ use Rattle.std.proofs.Common.{sym}
 use Rattle.bits.specs.Reader.{word}
 use Rattle.bits.specs.ReaderLaws.{local·rules, local_tail}
 use Rattle.bits.specs.PlacedLaws.{so, from, refused_by, handed_up, step, stop}
-use Rattle.elements.specs.Groups.{uplink}
-use Rattle.elements.proofs.GroupsLaws.{uplink_address-local}
+use Rattle.elements.specs.Groups.{uplink, uplink_address}
+use Rattle.elements.specs.GroupListLaws.{uplink_address-local}
 use Rattle.elements.proofs.PlacedOptional.{from-option, ends}
 use Rattle.elements.proofs.group_identity_uplink.GroupIdentityUplink.from_bitbuf.Goals as goal
 
@@ -26,15 +26,15 @@ returns-in_err-detachment c =
     (step _ (from-option c.in_ok-class_of_usage.ensures) (search local·rules) (stop _ (from c.in_err-detachment.ensures))))
 
 pub returns-in_default : goal.returns-in_default
-unfolding word uplink
+unfolding word uplink uplink_address
 returns-in_default c =
     so
     (step _ (from c.in_ok-kind.ensures) (search local·rules)
     (step _ (from-option c.in_ok-class_of_usage.ensures) (search local·rules)
-    (step _ (from-option c.in_ok-detachment.ensures) (search local·rules) (stop _ (refused_by c.read_uplink_address-a.ensures c.unwrap_err.ensures)))))
+    (step _ (from-option c.in_ok-detachment.ensures) (search local·rules) (stop _ (refused_by c.read_address-a.ensures c.unwrap_err.ensures)))))
 
 pub returns : goal.returns
-unfolding word uplink
+unfolding word uplink uplink_address
 returns c =
     so
     (step _ (from c.in_ok-kind.ensures) (search local·rules)
