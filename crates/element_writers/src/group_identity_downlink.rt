@@ -15,19 +15,15 @@ ghost use Rattle.elements.specs.Lists.{downlinks};
 
 use crate::group_address::GroupsAsked;
 use crate::group_identity_attachment::{attachment_fits, then_attachment};
-use crate::group_list::{GroupList, ask_list, put_list};
+use crate::group_list::{ListWriter, put_list};
 use bits::bitbuffer::{Digits, Place};
 use elements::group_address::GroupAddress;
 use elements::group_identity_attachment::GroupIdentityAttachment;
 use elements::group_identity_downlink::{GroupIdentityDownlink, OptionalDownlinks};
 use elements::type34_elem_id_dl::GROUP_IDENTITY_DOWNLINK;
 
-impl GroupList for OptionalDownlinks {
-    type Group = GroupIdentityDownlink;
-
+impl ListWriter for OptionalDownlinks {
     type Attachment = GroupIdentityAttachment;
-
-    ghost kind = { downlinks };
 
     ghost attachment = { downlink_attachment };
 
@@ -110,13 +106,6 @@ impl GroupList for OptionalDownlinks {
             _ => 4,
         }
     }
-}
-
-// The questions of a list; an absent one passes them, and has no bits.
-pub fn ask_downlinks(list: OptionalDownlinks) -> GroupsAsked
-    ensures { (result ≡ asked_list downlinks list) × (result.size ≤ 5172) }
-{
-    ask_list(&list)
 }
 
 // The list as an outer element, which may be absent; its content has `size` bits.

@@ -11,19 +11,15 @@ ghost use Rattle.elements.specs.Locations.{group_identity_uplink_identifier};
 ghost use Rattle.elements.specs.Lists.{uplinks};
 
 use crate::group_address::GroupsAsked;
-use crate::group_list::{GroupList, ask_list};
+use crate::group_list::ListWriter;
 use crate::typed_pdu_fields::{ask_type2, then_if};
 use bits::bitbuffer::Digits;
 use elements::group_address::GroupAddress;
 use elements::group_identity_uplink::{GroupIdentityUplink, OptionalUplinks};
 use elements::type34_elem_id_ul::GROUP_IDENTITY_UPLINK;
 
-impl GroupList for OptionalUplinks {
-    type Group = GroupIdentityUplink;
-
+impl ListWriter for OptionalUplinks {
     type Attachment = u64;
-
-    ghost kind = { uplinks };
 
     ghost attachment = { uplink_class };
 
@@ -104,11 +100,4 @@ impl GroupList for OptionalUplinks {
             _ => 3,
         }
     }
-}
-
-// The questions of a list; an absent one passes them, and has no bits.
-pub fn ask_uplinks(list: OptionalUplinks) -> GroupsAsked
-    ensures { (result ≡ asked_list uplinks list) × (result.size ≤ 5172) }
-{
-    ask_list(&list)
 }

@@ -7,7 +7,7 @@ ghost use Rattle.bits.specs.PutsLaws.{Puts};
 ghost use Rattle.elements.specs.declared.group_address.GroupAddress.{GroupAddress};
 ghost use Rattle.elements.specs.Numbers.{option_bits, option_all};
 ghost use Rattle.elements.specs.Groups.{Form, form_of, type_of, kind_of};
-ghost use Rattle.elements.specs.Lists.{Groups, each};
+ghost use Rattle.elements.specs.Lists.{each};
 ghost use Rattle.element_writers.specs.GroupsAsked.{asked_parts, asked_of, asked_each, asked_list};
 ghost use Rattle.element_writers.specs.GroupParts.{group_front, group_back, group_parts};
 ghost use Rattle.element_writers.specs.WrittenElements.{list_parts, nested_parts};
@@ -16,14 +16,12 @@ use crate::group_address::{GroupsAsked, NO_GROUPS, address_fits, address_size, c
 use crate::typed_pdu_fields::{ask_type2, element_header, then_if, width_if};
 use bits::bitbuffer::{Digits, NO_DIGITS, Place};
 use elements::group_address::GroupAddress;
+use elements::group_list::GroupList;
 
-// A list of groups of one kind, which may be absent. The kinds differ in what an attachment says and in the address types.
-pub(crate) trait GroupList {
-    type Group: Copy;
+// A list of groups as it is written. The kinds differ in what an attachment says and in the address types.
+pub trait ListWriter: GroupList {
     // What an attachment says.
     type Attachment: Copy;
-
-    ghost kind: { Groups Self.Group Self };
 
     ghost attachment: { Self.Group → Option Self.Attachment };
 
@@ -50,15 +48,15 @@ pub(crate) trait GroupList {
     const ADDRESS_TYPES: u64;
 
     fn presence(&self) -> bool
-        ensures { result ≡ kind.present self.now };
+        ensures { result ≡ Self.kind.present self.now };
 
     // How many groups the list says that it has.
     fn count(&self) -> usize
-        ensures { result ≡ kind.count self.now };
+        ensures { result ≡ Self.kind.count self.now };
 
     // Those that it has room for.
     fn groups(&self) -> &[Self::Group]
-        ensures groups { result.now ≡ take (kind.count self.now) (kind.groups self.now) }
+        ensures groups { result.now ≡ take (Self.kind.count self.now) (Self.kind.groups self.now) }
         ensures few { length result.now ≤ 63 };
 
     fn attachment(g: Self::Group) -> Option<Self::Attachment>
@@ -82,7 +80,7 @@ pub(crate) trait GroupList {
     fn address_type(a: GroupAddress) -> u64
         ensures { result ≡ type_of forms (form_of a) };
 
-    ghost asked: { (g : Self.Group) → asked_parts bits fits forms (attachment g) (detachment g) (address g) ≡ asked_of kind g };
+    ghost asked: { (g : Self.Group) → asked_parts bits fits forms (attachment g) (detachment g) (address g) ≡ asked_of Self.kind g };
 
     ghost wide: { (t : Self.Attachment) → length (bits t) ≡ ATTACHMENT_WIDTH };
 
@@ -99,7 +97,7 @@ fn kind_of(attached: bool) -> u64
 }
 
 // The bits of a group up to its GSSI.
-fn front<L: GroupList>(g: L::Group) -> Digits
+fn front<L: ListWriter>(g: L::Group) -> Digits
     ensures { Holds result (group_front L.bits L.forms (L.attachment g) (L.detachment g) (L.address g)) }
 {
     let attachment = L::attachment(g);
@@ -119,7 +117,7 @@ fn back(a: GroupAddress) -> Digits
 }
 
 // The questions of a group.
-fn ask_group<L: GroupList>(g: L::Group) -> GroupsAsked
+fn ask_group<L: ListWriter>(g: L::Group) -> GroupsAsked
     ensures { (result ≡ asked_of L.kind g) × (result.size ≤ 82) }
 {
     let attachment = L::attachment(g);
@@ -136,7 +134,7 @@ fn ask_group<L: GroupList>(g: L::Group) -> GroupsAsked
 }
 
 // A group, in two fields.
-fn put<L: GroupList>(g: L::Group, m: Place, octets: &mut [u8]) -> Place
+fn put<L: ListWriter>(g: L::Group, m: Place, octets: &mut [u8]) -> Place
     ensures { Puts (group_parts L.bits L.forms L.attachment L.detachment L.address g) (written octets.old (as_place m)) (written octets.new (as_place result)) }
 {
     let m1 = m.put(octets, front::<L>(g));
@@ -144,7 +142,7 @@ fn put<L: GroupList>(g: L::Group, m: Place, octets: &mut [u8]) -> Place
 }
 
 // Groups, one after the other.
-fn put_groups<L: GroupList>(m: Place, octets: &mut [u8], groups: &[L::Group]) -> Place
+fn put_groups<L: ListWriter>(m: Place, octets: &mut [u8], groups: &[L::Group]) -> Place
     ensures { Puts (each (group_parts L.bits L.forms L.attachment L.detachment L.address) groups.now) (written octets.old (as_place m)) (written octets.new (as_place result)) }
 {
     let mut place = m;
@@ -155,7 +153,7 @@ fn put_groups<L: GroupList>(m: Place, octets: &mut [u8], groups: &[L::Group]) ->
 }
 
 // The questions of groups together.
-fn ask_groups<L: GroupList>(groups: &[L::Group]) -> GroupsAsked
+fn ask_groups<L: ListWriter>(groups: &[L::Group]) -> GroupsAsked
     requires { length groups.now ≤ 63 }
     ensures { (result ≡ asked_each L.kind groups.now) × (result.size ≤ 82 * length groups.now) }
 {
@@ -167,7 +165,7 @@ fn ask_groups<L: GroupList>(groups: &[L::Group]) -> GroupsAsked
 }
 
 // The questions of a list; an absent one passes them, and has no bits.
-pub(crate) fn ask_list<L: GroupList>(list: &L) -> GroupsAsked
+pub fn ask_list<L: ListWriter>(list: &L) -> GroupsAsked
     ensures { (result ≡ asked_list L.kind list.now) × (result.size ≤ 5172) }
 {
     if list.presence() {
@@ -177,7 +175,7 @@ pub(crate) fn ask_list<L: GroupList>(list: &L) -> GroupsAsked
 }
 
 // The list as an element, `size` being the length of its content.
-pub(crate) fn put_list<L: GroupList>(m: Place, octets: &mut [u8], list: &L, size: usize) -> Place
+pub(crate) fn put_list<L: ListWriter>(m: Place, octets: &mut [u8], list: &L, size: usize) -> Place
     ensures { Puts (list_parts L.kind (group_parts L.bits L.forms L.attachment L.detachment L.address) L.IDENTIFIER size list.now) (written octets.old (as_place m)) (written octets.new (as_place result)) }
 {
     let h = element_header(L::IDENTIFIER, size);
@@ -186,7 +184,7 @@ pub(crate) fn put_list<L: GroupList>(m: Place, octets: &mut [u8], list: &L, size
 }
 
 // A structure that holds the list: what stands before, the O-bit, and if it is present the list and the closing M-bit.
-pub(crate) fn put_nested<L: GroupList>(
+pub(crate) fn put_nested<L: ListWriter>(
     m: Place,
     octets: &mut [u8],
     front: Digits,

@@ -9,5 +9,5 @@ pub mod group_identity_downlink;
 pub mod group_identity_location_accept;
 pub mod group_identity_location_demand;
 pub mod group_identity_uplink;
-mod group_list;
+pub mod group_list;
 pub mod typed_pdu_fields;

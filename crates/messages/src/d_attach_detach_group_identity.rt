@@ -12,7 +12,8 @@ use crate::u_location_update_demand::ULocationUpdateDemand;
 use crate::{MessageRead, OwnRecord, Pdu, Record, unread};
 use bits::bitbuffer::{Cursor, Read};
 use bits::pdu_parse_error::PduParseErr;
-use elements::group_identity_downlink::{OptionalDownlinks, no_downlinks, read_downlinks_slot};
+use elements::group_identity_downlink::OptionalDownlinks;
+use elements::group_list::{no_list, read_list_slot};
 use elements::mm_pdu_type_dl::D_ATTACH_DETACH_GROUP_IDENTITY;
 use elements::type34_elem_id_dl::{
     GROUP_IDENTITY_DOWNLINK, GROUP_IDENTITY_SECURITY_RELATED_INFORMATION, GROUP_REPORT_RESPONSE,
@@ -116,7 +117,7 @@ impl OwnRecord for DAttachDetachGroupIdentity {
             group_identity_attach_detach_mode: 0,
             obit: 0,
         };
-        record_of(head, no_downlinks(), NO_GENERICS, NO_GENERICS)
+        record_of(head, no_list(), NO_GENERICS, NO_GENERICS)
     }
 
     fn alone(self) -> Record {
@@ -155,7 +156,7 @@ impl Pdu for DAttachDetachGroupIdentity {
             let Ok(c3) = v else {
                 return unread(v.unwrap_err());
             };
-            let d = read_downlinks_slot(c3, all, true, GROUP_IDENTITY_DOWNLINK);
+            let d = read_list_slot(c3, all, true, GROUP_IDENTITY_DOWNLINK);
             let w = d.verdict;
             let Ok(c4) = w else {
                 return unread(w.unwrap_err());
@@ -184,7 +185,7 @@ impl Pdu for DAttachDetachGroupIdentity {
         };
         MessageRead {
             verdict: Ok((0, c2)),
-            record: record_of(head, no_downlinks(), NO_GENERICS, NO_GENERICS),
+            record: record_of(head, no_list(), NO_GENERICS, NO_GENERICS),
         }
     }
 }

@@ -5,8 +5,8 @@ use Rattle.element_writers.proofs.group_list.ask_group.Goals as goal
 
 pub returns : goal.returns
 returns g c =
-    let k = g.L.GroupList in
-    let h = g.met.L.GroupList in
+    let k = g.L.ListWriter in
+    let h = g.met.L.ListWriter in
     let i = c.args.g in
     let few = h.few in (
       rw (

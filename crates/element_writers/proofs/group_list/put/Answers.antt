@@ -6,8 +6,8 @@ use Rattle.element_writers.proofs.group_list.put.Goals as goal
 
 pub returns : goal.returns
 returns g c =
-    let k = g.L.GroupList in
-    let h = g.met.L.GroupList in
+    let k = g.L.ListWriter in
+    let h = g.met.L.ListWriter in
     let i = c.args.g in
     let few = h.few in
     let most = option_most k.bits k.ATTACHMENT_WIDTH h.wide (k.attachment i) in

@@ -10,6 +10,6 @@ loop-g-init g c = nothing
 
 pub loop-g-preserved : goal.loop-g-preserved
 loop-g-preserved g c =
-    let k = g.L.GroupList in
+    let k = g.L.ListWriter in
     let l = c.loop-g in
     each-one (group_parts k.bits k.forms k.attachment k.detachment k.address) c.args.groups.now l.g-index c.loop-g-test.true c.g-item.is l.invariant c.put-place.ensures

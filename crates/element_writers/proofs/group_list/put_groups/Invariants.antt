@@ -9,5 +9,5 @@ use Rattle.element_writers.proofs.group_list.put_groups.Given as goal
 
 abbrev pub invariant-loop-g : goal.invariant-loop-g
 invariant-loop-g g l =
-    let k = g.L.GroupList in
+    let k = g.L.ListWriter in
     Puts (each (group_parts k.bits k.forms k.attachment k.detachment k.address) (take l.g-index l.groups)) (written l.initial.octets (as_place l.initial.place)) (written l.octets (as_place l.place))

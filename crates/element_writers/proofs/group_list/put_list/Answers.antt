@@ -6,7 +6,7 @@ use Rattle.element_writers.proofs.group_list.put_list.Goals as goal
 
 pub returns : goal.returns
 returns g c =
-    let k = g.L.GroupList in
+    let k = g.L.ListWriter in
     let a = c.args in
-    field (rw (c.IDENTIFIER.ensures, c.count.ensures) at (c.element_header-h.ensures ▹ c.then.ensures)) (list_front-fits k.IDENTIFIER a.size (k.kind.count a.list.now)) c.put-m1.ensures
+    field (rw (c.IDENTIFIER.ensures, c.count.ensures) at (c.element_header-h.ensures ▹ c.then.ensures)) (list_front-fits k.IDENTIFIER a.size (g.L.GroupList.kind.count a.list.now)) c.put-m1.ensures
     ⨾ (rw c.groups.ensures.groups at c.put_groups.ensures)

@@ -10,15 +10,15 @@ use Rattle.element_writers.proofs.group_list.put_nested.Goals as goal
 
 pub returns-then-listed : goal.returns-then-listed
 returns-then-listed g c =
-    let k = g.L.GroupList in
+    let k = g.L.ListWriter in
     let a = c.args in
-    nested-there k.kind (group_parts k.bits k.forms k.attachment k.detachment k.address) k.IDENTIFIER (bits_in a.front) a.size a.list.now (sym c.presence-listed.ensures ∙ c.if-listed.true)
+    nested-there g.L.GroupList.kind (group_parts k.bits k.forms k.attachment k.detachment k.address) k.IDENTIFIER (bits_in a.front) a.size a.list.now (sym c.presence-listed.ensures ∙ c.if-listed.true)
     (field {w = written a.octets.now (as_place a.m)} (behind (rw c.presence-listed.ensures at c.then.ensures)) (flag_fits a.front _ c.requires) c.put-m1.ensures)
     c.put_list-m2.ensures (field (no_digits ▹ c.then-then-listed.ensures) closing-fits c.put.ensures)
 
 pub returns : goal.returns
 returns g c =
-    let k = g.L.GroupList in
+    let k = g.L.ListWriter in
     let a = c.args in
-    nested-absent k.kind (group_parts k.bits k.forms k.attachment k.detachment k.address) k.IDENTIFIER (bits_in a.front) a.size a.list.now (sym c.presence-listed.ensures ∙ c.if-listed.false)
+    nested-absent g.L.GroupList.kind (group_parts k.bits k.forms k.attachment k.detachment k.address) k.IDENTIFIER (bits_in a.front) a.size a.list.now (sym c.presence-listed.ensures ∙ c.if-listed.false)
     (field {w = written a.octets.now (as_place a.m)} (behind (rw c.presence-listed.ensures at c.then.ensures)) (flag_fits a.front _ c.requires) c.put-m1.ensures)

@@ -6,7 +6,8 @@ use Prim.Native.Nat.{◌+◌, ℕ, ◌-◌}
 use Rattle.bits.specs.ReaderLaws.{local_tail}
 use Rattle.bits.specs.Placed.{placed, at}
 use Rattle.bits.specs.PlacedLaws.{Gives, by, from, refused_by, Fact, fact}
-use Rattle.elements.specs.GroupAnswers.{downlinks_slot, downlinks_answer}
+use Rattle.elements.specs.Lists.{downlinks}
+use Rattle.elements.specs.GroupAnswers.{downlinks_slot, list_answer}
 use Rattle.elements.proofs.Verdicts.{answer, verdict_refused, verdict_to}
 use Rattle.elements.proofs.Parts.{no_front_lem, no_slot, no_back, Each, no_more, one_more, Parts, all_read}
 use Rattle.messages.proofs.AttachDetachLaws.{attach_detach_head-local}
@@ -32,7 +33,7 @@ use Rattle.messages.specs.AttachDetach.{attach_detach_table, attach_detach_head}
 use Rattle.messages.specs.declared.d_attach_detach_group_identity.AttachDetachHead.{AttachDetachHead}
 use Rattle.messages.specs.declared.Record.{Record}
 use Rattle.messages.proofs.d_attach_detach_group_identity.DAttachDetachGroupIdentityPdu.from_bitbuf.Goals as goal
-use Rattle.messages.proofs.d_attach_detach_group_identity.DAttachDetachGroupIdentityPdu.from_bitbuf.Goals.{After-read_downlinks_slot-d, In-Ok, In-Ok-v, In-Ok-w, In-Ok-x, In-Ok-z, In_default-e}
+use Rattle.messages.proofs.d_attach_detach_group_identity.DAttachDetachGroupIdentityPdu.from_bitbuf.Goals.{After-read_list_slot-d, In-Ok, In-Ok-v, In-Ok-w, In-Ok-x, In-Ok-z, In_default-e}
 
 -- the slots before the own one, and those behind it
 abbrev front : List Row
@@ -85,12 +86,12 @@ front_read : (c : In-Ok-v) → Gives (part attach_detach_table front false c.arg
 front_read c = verdict_to _ c.scan_part-a.ensures c.in-Ok-v.is
 
 -- its own slot: a list's slot is the same in a table and inside a structure
-slot_ensured : (c : After-read_downlinks_slot-d) → c.read_downlinks_slot-d.result ≡ downlinks_answer (at (downlinks_slot 7) (anew c.args.octets.now) c.in-Ok-v.c3)
-slot_ensured c = rw (downlinks_slot_lem 7) c.read_downlinks_slot-d.ensures
+slot_ensured : (c : After-read_list_slot-d) → c.read_list_slot-d.result ≡ list_answer downlinks (at (downlinks_slot 7) (anew c.args.octets.now) c.in-Ok-v.c3)
+slot_ensured c = rw (downlinks_slot_lem 7) c.read_list_slot-d.ensures
 
-slot_read : (c : In-Ok-w) → Gives (downlinks_slot 7) (anew c.args.octets.now) c.in-Ok-v.c3 (placed c.read_downlinks_slot-d.result.value c.in-Ok-w.c4)
+slot_read : (c : In-Ok-w) → Gives (downlinks_slot 7) (anew c.args.octets.now) c.in-Ok-v.c3 (placed c.read_list_slot-d.result.value c.in-Ok-w.c4)
 slot_read c =
-    let slot : c.read_downlinks_slot-d.result ≡ downlinks_answer (at (downlinks_slot 7) (anew c.args.octets.now) c.in-Ok-v.c3) = rw (downlinks_slot_lem 7) c.read_downlinks_slot-d.ensures in
+    let slot : c.read_list_slot-d.result ≡ list_answer downlinks (at (downlinks_slot 7) (anew c.args.octets.now) c.in-Ok-v.c3) = rw (downlinks_slot_lem 7) c.read_list_slot-d.ensures in
     verdict_to _ slot c.in-Ok-w.is
 
 back_read : (c : In-Ok-x) → Gives (part attach_detach_table back true c.args.skipping 3) (anew c.args.octets.now) c.in-Ok-w.c4 (placed c.scan_part-b.result.value c.in-Ok-x.c6)
@@ -100,13 +101,13 @@ back_read c = verdict_to _ c.scan_part-b.ensures c.in-Ok-x.is
 unfoldable whole : In-Ok-x → Fact
 unfolding downlinks_slot
 whole c =
-    let slot : c.read_downlinks_slot-d.result ≡ downlinks_answer (at (downlinks_slot 7) (anew c.args.octets.now) c.in-Ok-v.c3) = rw (downlinks_slot_lem 7) c.read_downlinks_slot-d.ensures in
+    let slot : c.read_list_slot-d.result ≡ list_answer downlinks (at (downlinks_slot 7) (anew c.args.octets.now) c.in-Ok-v.c3) = rw (downlinks_slot_lem 7) c.read_list_slot-d.ensures in
     fact (all_read _ c.args.skipping (parts c.in-Ok.head) (verdict_to _ c.scan_part-a.ensures c.in-Ok-v.is) (verdict_to _ slot c.in-Ok-w.is) (back_read c))
 
 unfoldable closed : In-Ok-z → Fact
 unfolding downlinks_slot
 closed c =
-    let slot : c.read_downlinks_slot-d.result ≡ downlinks_answer (at (downlinks_slot 7) (anew c.args.octets.now) c.in-Ok-v.c3) = rw (downlinks_slot_lem 7) c.read_downlinks_slot-d.ensures in
+    let slot : c.read_list_slot-d.result ≡ list_answer downlinks (at (downlinks_slot 7) (anew c.args.octets.now) c.in-Ok-v.c3) = rw (downlinks_slot_lem 7) c.read_list_slot-d.ensures in
     fact (all_read _ c.args.skipping (parts c.in-Ok.head) (verdict_to _ c.scan_part-a.ensures c.in-Ok-v.is) (verdict_to _ slot c.in-Ok-w.is)
     (part-ended _ _ _ _ (from c.in-Ok-z.ensures)))
 
@@ -124,7 +125,7 @@ pub returns-in_default-w : goal.returns-in_default-w
 unfolding downlinks_slot
 returns-in_default-w c =
     c.unread-in_default-w.ensures ∙ answer attach_detach_answer (no_slot _ c.args.skipping (parts c.in-Ok.head) (front_read ((goal.at.returns-in_default-w c).In-Ok-v))
-    (verdict_refused _ (slot_ensured ((goal.at.returns-in_default-w c).After-read_downlinks_slot-d)) c.unwrap_err-in_default-w.ensures))
+    (verdict_refused _ (slot_ensured ((goal.at.returns-in_default-w c).After-read_list_slot-d)) c.unwrap_err-in_default-w.ensures))
     ∙ following ((goal.at.returns-in_default-w c).In_default-e)
 
 pub returns-in_default-x : goal.returns-in_default-x
@@ -153,4 +154,4 @@ returns-in_default-e c =
 
 pub returns : goal.returns
 returns c =
-    rw (c.record_of-2.ensures, c.no_downlinks.ensures) (answer attach_detach_answer (none_follow attach_detach_format c.args.skipping (headed ((goal.at.returns c).In-Ok)) (local_tail attach_detach_head-local) (from c.in-Ok-e.ensures)) ∙ lent _ _ _)
+    rw (c.record_of-2.ensures, c.no_list.ensures) (answer attach_detach_answer (none_follow attach_detach_format c.args.skipping (headed ((goal.at.returns c).In-Ok)) (local_tail attach_detach_head-local) (from c.in-Ok-e.ensures)) ∙ lent _ _ _)
