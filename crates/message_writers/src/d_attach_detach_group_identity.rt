@@ -14,7 +14,8 @@ use crate::parts::flag;
 use crate::questions::Answers;
 use bits::bitbuffer::{Cursor, Digits, NO_DIGITS, Place, within};
 use element_writers::group_address::GroupsAsked;
-use element_writers::group_identity_downlink::{ask_downlinks, write_downlinks};
+use element_writers::group_identity_downlink::write_downlinks;
+use element_writers::group_list::ask_list;
 use element_writers::typed_pdu_fields::{
     type3_fits, type3_size, type4_fits, width_if, write_type3_generic,
 };
@@ -110,7 +111,7 @@ fn put_elements(
 impl PduWriter for DAttachDetachGroupIdentity {
     fn to_bitbuf(self, c: Cursor, octets: &mut [u8]) -> Place {
         let list = self.group_identity_downlink;
-        let a = ask_downlinks(list);
+        let a = ask_list(&list);
         let answers = ask(self, a);
         let place = answers.start(c, octets.len());
         let None = place.halt else {
