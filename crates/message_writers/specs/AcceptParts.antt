@@ -32,8 +32,7 @@ use Rattle.messages.specs.declared.d_location_update_accept.AcceptHead.{AcceptHe
 use Rattle.messages.specs.declared.d_location_update_accept.DLocationUpdateAccept.{DLocationUpdateAccept}
 use Rattle.message_writers.specs.Writes.{Answered}
 use Rattle.message_writers.specs.WritesLaws.{all_append, generic_bits, kind-slot, type3_slot_lem, type4_slot_lem, slot-present, optional-length, InParts, in_parts_lem}
-use Rattle.message_writers.specs.Parts.{saving-length, addresses_bits, addresses_length, fits3, four_asked, four_parts, then-four, then-four-length, type2-length, cond-most}
-use Rattle.message_writers.specs.declared.parts.FourGenerics.{FourGenerics}
+use Rattle.message_writers.specs.Parts.{saving-length, addresses_bits, addresses_length, fits3, Generic, generics_asked, generics_parts, then-generics, then-generics-length, type2-length, cond-most}
 use Rattle.message_writers.specs.declared.d_location_update_accept.AcceptRest.{AcceptRest}
 
 abbrev pub accept_head_in : DLocationUpdateAccept → AcceptHead
@@ -49,13 +48,8 @@ accept_head_in d = record {
   };
 }
 
-abbrev pub accept_generics_in : DLocationUpdateAccept → FourGenerics
-accept_generics_in d = record {
-  first = d.default_group_attachment_lifetime;
-  second = d.authentication_downlink;
-  third = d.cell_type_control;
-  fourth = d.proprietary;
-}
+abbrev pub accept_generics_in : DLocationUpdateAccept → List Generic
+accept_generics_in d = (1, d.default_group_attachment_lifetime) ∷ (10, d.authentication_downlink) ∷ (13, d.cell_type_control) ∷ (15, d.proprietary) ∷ []
 
 abbrev pub accept_rest_in : DLocationUpdateAccept → AcceptRest
 accept_rest_in d = record {
@@ -77,13 +71,13 @@ accept_second o =
     ++ type2_bits (digits scch_width) (in_u64 o.scch_information_and_distribution_on_18th_frame)
 
 -- the list's content has m bits, the location accept's n
-abbrev pub accept_behind : AcceptOptions → OptionalType3 → ℕ → ℕ → OptionalLocationAccept → FourGenerics → List Bits
-accept_behind o s m n l g =
-    addresses_bits o.ssi o.address_extension ∷ accept_second o ∷ generic_bits 3 s ∷ (accept_location_parts m n l ++ four_parts (1 ∷ 10 ∷ 13 ∷ 15 ∷ []) g)
+abbrev pub accept_behind : AcceptOptions → OptionalType3 → ℕ → ℕ → OptionalLocationAccept → List Generic → List Bits
+accept_behind o s m n l gs =
+    addresses_bits o.ssi o.address_extension ∷ accept_second o ∷ generic_bits 3 s ∷ (accept_location_parts m n l ++ generics_parts gs)
 
-pub record AcceptGenerics (s : OptionalType3) (g : FourGenerics) : Type 0 where
+pub record AcceptGenerics (s : OptionalType3) (gs : List Generic) : Type 0 where
   pub security : fits3 s ≡ true
-  pub others : (four_asked g).fits ≡ true
+  pub others : (generics_asked gs).fits ≡ true
 
 -- ## the parts of question 8
 
@@ -172,12 +166,12 @@ accept_more_lem d =
     )
 
 -- what an accept's head, the answers about its location accept and its generic elements are
-pub record AcceptIs (d : DLocationUpdateAccept) (h : AcceptHead) (r : AcceptRest) (located : Bool) (l : LocationAsked) (g : FourGenerics) : Type 0 where
+pub record AcceptIs (d : DLocationUpdateAccept) (h : AcceptHead) (r : AcceptRest) (located : Bool) (l : LocationAsked) (gs : List Generic) : Type 0 where
   pub head : h ≡ accept_head_in d
   pub rest : r ≡ accept_rest_in d
   pub there : located ≡ d.group_identity_location_accept.present
   pub asked : l ≡ accept_location_asked d.group_identity_location_accept
-  pub generics : g ≡ accept_generics_in d
+  pub generics : gs ≡ accept_generics_in d
 
 abbrev fits4 : OptionalType4 → Bool
 fits4 o = option_all type4_fits (type4_held o)
@@ -186,34 +180,30 @@ fits4 o = option_all type4_fits (type4_held o)
 accept-fits : (d : DLocationUpdateAccept)
     → (in_width update_type_width d.location_update_accept_type && (all_of (accept_options_tests (accept_head_in d).options (saving_asked (saving_in d)).fits)
     && (fits4 d.new_registered_area && (fits3 d.security_downlink && ((accept_location_asked d.group_identity_location_accept).fits
-    && (fits4 d.group_identity_security_related_information && (four_asked (accept_generics_in d)).fits))))))
+    && (fits4 d.group_identity_security_related_information && (generics_asked (accept_generics_in d)).fits))))))
     ≡ all_of (accept_parts d)
 accept-fits d =
-    let g = accept_generics_in d in
     let r = fits4 d.group_identity_security_related_information in
     let tests = accept_options_tests (accept_head_in d).options (saving_asked (saving_in d)).fits in
     let location = (accept_location_asked d.group_identity_location_accept).fits in
-    let others = fits3 g.first ∷ fits3 g.second ∷ r ∷ fits3 g.third ∷ fits3 g.fourth ∷ [] in
+    let others = fits3 d.default_group_attachment_lifetime ∷ fits3 d.authentication_downlink ∷ r ∷ fits3 d.cell_type_control ∷ fits3 d.proprietary ∷ [] in
     let before : Bool → Bool = λ (b : Bool). fits4 d.new_registered_area && (fits3 d.security_downlink && (location && b)) in
     ap (λ (b : Bool). in_width update_type_width d.location_update_accept_type && b)
-    (ap (λ (b : Bool). all_of tests && before b) (among (fits3 g.first) (fits3 g.second) r (fits3 g.third) (fits3 g.fourth))
+    (ap (λ (b : Bool). all_of tests && before b) (among (fits3 d.default_group_attachment_lifetime) (fits3 d.authentication_downlink) r _)
     ∙ sym (all_append tests (fits4 d.new_registered_area ∷ fits3 d.security_downlink ∷ location ∷ others)))
   where
-    -- the type 4 element stands among the four
-    among : (a b r c e : Bool) → (r && (a && (b && (c && e)))) ≡ all_of (a ∷ b ∷ r ∷ c ∷ e ∷ [])
-    among true true true true true = refl
-    among true true true true false = refl
-    among true true true false e = refl
-    among true true false c e = refl
-    among true false true c e = refl
-    among true false false c e = refl
-    among false b true c e = refl
-    among false b false c e = refl
+    -- the type 4 element stands among them
+    among : (a b r c : Bool) → (r && (a && (b && c))) ≡ (a && (b && (r && c)))
+    among true true r c = refl
+    among true false true c = refl
+    among true false false c = refl
+    among false b true c = refl
+    among false b false c = refl
 
 pub accept-generics : (d : DLocationUpdateAccept) → (accept_asked d).fits ≡ true → AcceptGenerics d.security_downlink (accept_generics_in d)
 unfolding accept_asked
 accept-generics d h =
-    let f = (four_asked (accept_generics_in d)).fits in
+    let f = (generics_asked (accept_generics_in d)).fits in
     let r = fits4 d.group_identity_security_related_information in
     let l = (accept_location_asked d.group_identity_location_accept).fits in
     let s = fits3 d.security_downlink in
@@ -244,8 +234,8 @@ module _ (d : DLocationUpdateAccept) {a : LocationAsked} (asked : a ≡ accept_l
   abbrev location_parts : List Bits
   location_parts = accept_location_parts a.list a.content location
 
-  abbrev four : List Bits
-  four = four_parts (1 ∷ 10 ∷ 13 ∷ 15 ∷ []) (accept_generics_in d)
+  abbrev generics : List Bits
+  generics = generics_parts (accept_generics_in d)
 
   abbrev table : Bits
   table = table_bits identifier_of content_bits accept_table (accept_slots d)
@@ -258,20 +248,16 @@ module _ (d : DLocationUpdateAccept) {a : LocationAsked} (asked : a ≡ accept_l
   unfolding accept_asked
   no_related = not-true _ (both (not d.new_registered_area.present) _ type3-only).1
 
-  elements-joined : generic_bits 3 d.security_downlink ++ joined (location_parts ++ four) ≡ table
+  elements-joined : generic_bits 3 d.security_downlink ++ joined (location_parts ++ generics) ≡ table
   unfolding table_bits
   elements-joined =
       ap (λ (xs : Bits). generic_bits 3 d.security_downlink ++ xs)
-      (then-four location_parts (1 ∷ 10 ∷ 13 ∷ 15 ∷ []) (accept_generics_in d) (location_accept-joined location asked))
+      (then-generics location_parts (accept_generics_in d) (location_accept-joined location asked))
       ∙ sym (rw (
         type4_slot_lem 2 d.new_registered_area no_area,
         type3_slot_lem 3 d.security_downlink,
         location-slot location,
-        type3_slot_lem 1 d.default_group_attachment_lifetime,
-        type3_slot_lem 10 d.authentication_downlink,
         type4_slot_lem 12 d.group_identity_security_related_information no_related,
-        type3_slot_lem 13 d.cell_type_control,
-        type3_slot_lem 15 d.proprietary,
       ))
 
   behind-joined : joined behind ≡ accept_options_bits d table
@@ -296,7 +282,7 @@ module _ (d : DLocationUpdateAccept) {a : LocationAsked} (asked : a ≡ accept_l
 
   behind-length : AcceptGenerics d.security_downlink (accept_generics_in d)
       → length (joined behind)
-      ≡ accept_options_size options + (type3_size d.security_downlink + (cond location.present (16 + a.content) 0 + ((four_asked (accept_generics_in d)).size + 1)))
+      ≡ accept_options_size options + (type3_size d.security_downlink + (cond location.present (16 + a.content) 0 + ((generics_asked (accept_generics_in d)).size + 1)))
   unfolding joined
   behind-length f =
       let x : Bits = addresses_bits d.ssi d.address_extension in
@@ -304,28 +290,28 @@ module _ (d : DLocationUpdateAccept) {a : LocationAsked} (asked : a ≡ accept_l
       let s : Bits = generic_bits 3 d.security_downlink in
       omega (
         arith,
-        length-append x (y ++ (s ++ joined (location_parts ++ four))),
-        length-append y (s ++ joined (location_parts ++ four)),
-        length-append s (joined (location_parts ++ four)),
+        length-append x (y ++ (s ++ joined (location_parts ++ generics))),
+        length-append y (s ++ joined (location_parts ++ generics)),
+        length-append s (joined (location_parts ++ generics)),
         length-append x y,
         type3_size_lem 3 d.security_downlink f.security,
-        then-four-length location_parts (1 ∷ 10 ∷ 13 ∷ 15 ∷ []) (accept_generics_in d) location-length f.others,
+        then-generics-length location_parts (accept_generics_in d) location-length f.others,
       )
 
   -- how long it is
   accept-length : AcceptGenerics d.security_downlink (accept_generics_in d)
       → 8 + cond (accept_more d)
-      (accept_options_size options + (type3_size d.security_downlink + (cond location.present (16 + a.content) 0 + ((four_asked (accept_generics_in d)).size + 1)))) 0
+      (accept_options_size options + (type3_size d.security_downlink + (cond location.present (16 + a.content) 0 + ((generics_asked (accept_generics_in d)).size + 1)))) 0
       ≡ length (accept_bits d)
   accept-length f = rw (← behind-length f) (omega (arith, front_length (accept_head_in d), accept-in_parts.long))
 
 -- THE ANSWERS to the questions
-pub accept-answered : (d : DLocationUpdateAccept) (h : AcceptHead) (r : AcceptRest) (located : Bool) (l : LocationAsked) (g : FourGenerics) → AcceptIs d h r located l g
+pub accept-answered : (d : DLocationUpdateAccept) (h : AcceptHead) (r : AcceptRest) (located : Bool) (l : LocationAsked) (gs : List Generic) → AcceptIs d h r located l gs
     → Answered (accept_asked d) (accept_bits d) (record {
       fits =
           in_width update_type_width h.location_update_accept_type
           && (all_of (accept_options_tests h.options (saving_asked (held h.options.energy_saving_information.present h.options.energy_saving_information.value)).fits)
-          && (fits4 r.new_registered_area && (fits3 r.security_downlink && (l.fits && (fits4 r.group_identity_security_related_information && (four_asked g).fits)))));
+          && (fits4 r.new_registered_area && (fits3 r.security_downlink && (l.fits && (fits4 r.group_identity_security_related_information && (generics_asked gs).fits)))));
       ciphered = true;
       attached = l.one;
       formed = l.listed;
@@ -335,9 +321,9 @@ pub accept-answered : (d : DLocationUpdateAccept) (h : AcceptHead) (r : AcceptRe
       short = l.short;
       size =
           8 + cond (eqb h.obit 1)
-          (accept_options_size h.options + (type3_size r.security_downlink + (cond located (16 + l.content) 0 + ((four_asked g).size + 1)))) 0;
+          (accept_options_size h.options + (type3_size r.security_downlink + (cond located (16 + l.content) 0 + ((generics_asked gs).size + 1)))) 0;
     })
 unfolding accept_asked
-accept-answered d h r located l g w =
+accept-answered d h r located l gs w =
     rw (w.head, w.rest, w.there, w.asked, w.generics, one_bit (accept_more d))
     (record { is = rw (accept-fits d); size = λ f t. accept-length d refl t (accept-generics d f) })

@@ -1,5 +1,5 @@
 -- The parts that a U-LOCATION UPDATE DEMAND is written in: up to the O-bit; the type 2 elements in two fields; the listed elements.
-use Rattle.std.specs.Prelude.{ℕ, ◌+◌, ◌*◌, ◌/◌, ◌^◌, ◌≤◌, ◌≡◌, refl, Bool, true, false, cond, ◌&&◌, ◌||◌, length, eqb, option_map}
+use Rattle.std.specs.Prelude.{ℕ, ◌+◌, ◌*◌, ◌/◌, ◌^◌, ◌≤◌, ◌≡◌, refl, Bool, true, false, cond, ◌&&◌, ◌||◌, map, length, eqb, option_map}
 use native.Mathlib.Omega.{arith}
 use Rattle.std.proofs.Math.Path.{sym, ap}
 use Rattle.std.proofs.Common.{ap₂, ◌∙◌}
@@ -29,9 +29,8 @@ use Rattle.messages.specs.declared.u_location_update_demand.DemandOptions.{Deman
 use Rattle.messages.specs.declared.u_location_update_demand.DemandHead.{DemandHead}
 use Rattle.messages.specs.declared.u_location_update_demand.ULocationUpdateDemand.{ULocationUpdateDemand}
 use Rattle.message_writers.specs.Writes.{as_asked, Answered}
-use Rattle.message_writers.specs.WritesLaws.{all_in_three, kind-slot, type3_slot_lem, slot-present, optional-length, InParts, in_parts_lem}
-use Rattle.message_writers.specs.Parts.{class-length, addresses_bits, addresses_length, four_asked, four_tests, four_tests_lem, four_parts, then-four, then-four-length, type2-length, cond-most}
-use Rattle.message_writers.specs.declared.parts.FourGenerics.{FourGenerics}
+use Rattle.message_writers.specs.WritesLaws.{all_in_three, kind-slot, slot-present, optional-length, InParts, in_parts_lem}
+use Rattle.message_writers.specs.Parts.{class-length, addresses_bits, addresses_length, Generic, generic_fits, generics_asked, generics_parts, then-generics, then-generics-length, type2-length, cond-most}
 
 abbrev pub demand_head_in : ULocationUpdateDemand → DemandHead
 demand_head_in d = record {
@@ -49,13 +48,8 @@ demand_head_in d = record {
   obit = bit (demand_more d);
 }
 
-abbrev pub demand_generics_in : ULocationUpdateDemand → FourGenerics
-demand_generics_in d = record {
-  first = d.group_report_response;
-  second = d.authentication_uplink;
-  third = d.extended_capabilities;
-  fourth = d.proprietary;
-}
+abbrev pub demand_generics_in : ULocationUpdateDemand → List Generic
+demand_generics_in d = (4, d.group_report_response) ∷ (9, d.authentication_uplink) ∷ (11, d.extended_capabilities) ∷ (15, d.proprietary) ∷ []
 
 -- ## bits
 
@@ -76,15 +70,12 @@ demand_first o =
 abbrev pub demand_options_parts : DemandOptions → List Bits
 demand_options_parts o = demand_first o ∷ addresses_bits o.ssi o.address_extension ∷ []
 
-abbrev pub demand_generics_parts : FourGenerics → List Bits
-demand_generics_parts g = four_parts (4 ∷ 9 ∷ 11 ∷ 15 ∷ []) g
-
 -- the list's content has m bits, the location demand's n
-abbrev pub demand_elements : ℕ → ℕ → OptionalLocationDemand → FourGenerics → List Bits
-demand_elements m n l g = demand_location_parts m n l ++ demand_generics_parts g
+abbrev pub demand_elements : ℕ → ℕ → OptionalLocationDemand → List Generic → List Bits
+demand_elements m n l gs = demand_location_parts m n l ++ generics_parts gs
 
-abbrev pub demand_behind : DemandOptions → ℕ → ℕ → OptionalLocationDemand → FourGenerics → List Bits
-demand_behind o m n l g = demand_first o ∷ addresses_bits o.ssi o.address_extension ∷ demand_elements m n l g
+abbrev pub demand_behind : DemandOptions → ℕ → ℕ → OptionalLocationDemand → List Generic → List Bits
+demand_behind o m n l gs = demand_first o ∷ addresses_bits o.ssi o.address_extension ∷ demand_elements m n l gs
 
 -- ## the parts of question 8
 
@@ -183,25 +174,25 @@ demand_more_lem d =
     )
 
 -- what a demand's head, the answers about its location demand and its generic elements are
-pub record DemandIs (d : ULocationUpdateDemand) (h : DemandHead) (located : Bool) (l : LocationAsked) (g : FourGenerics) : Type 0 where
+pub record DemandIs (d : ULocationUpdateDemand) (h : DemandHead) (located : Bool) (l : LocationAsked) (gs : List Generic) : Type 0 where
   pub head : h ≡ demand_head_in d
   pub there : located ≡ d.group_identity_location_demand.present
   pub asked : l ≡ demand_location_asked d.group_identity_location_demand
-  pub generics : g ≡ demand_generics_in d
+  pub generics : gs ≡ demand_generics_in d
 
 -- question 8, in parts
 demand-fits : (d : ULocationUpdateDemand)
     → (all_of (demand_head_tests (demand_head_in d)) && (all_of (demand_options_tests (demand_head_in d).options)
-    && ((demand_location_asked d.group_identity_location_demand).fits && (four_asked (demand_generics_in d)).fits)))
+    && ((demand_location_asked d.group_identity_location_demand).fits && (generics_asked (demand_generics_in d)).fits)))
     ≡ all_of (demand_parts d)
 demand-fits d =
-    all_in_three (demand_head_tests (demand_head_in d)) (demand_options_tests (demand_head_in d).options) (four_tests (demand_generics_in d))
-    (demand_location_asked d.group_identity_location_demand).fits (four_tests_lem (demand_generics_in d))
+    all_in_three (demand_head_tests (demand_head_in d)) (demand_options_tests (demand_head_in d).options) (map generic_fits (demand_generics_in d))
+    (demand_location_asked d.group_identity_location_demand).fits refl
 
-pub demand-generics : (d : ULocationUpdateDemand) → (demand_asked d).fits ≡ true → (four_asked (demand_generics_in d)).fits ≡ true
+pub demand-generics : (d : ULocationUpdateDemand) → (demand_asked d).fits ≡ true → (generics_asked (demand_generics_in d)).fits ≡ true
 unfolding demand_asked
 demand-generics d h =
-    let f = (four_asked (demand_generics_in d)).fits in
+    let f = (generics_asked (demand_generics_in d)).fits in
     let l = (demand_location_asked d.group_identity_location_demand).fits in
     let o = all_of (demand_options_tests (demand_head_in d).options) in
     (both l f (both o (l && f) (both (all_of (demand_head_tests (demand_head_in d))) (o && (l && f)) (demand-fits d ∙ h)).1).1).1
@@ -230,23 +221,16 @@ module _ (d : ULocationUpdateDemand) {a : LocationAsked} (asked : a ≡ demand_l
   abbrev location_parts : List Bits
   location_parts = demand_location_parts a.list a.content location
 
-  abbrev four : List Bits
-  four = demand_generics_parts (demand_generics_in d)
+  abbrev generics : List Bits
+  generics = generics_parts (demand_generics_in d)
 
   abbrev table : Bits
   table = table_bits identifier_of content_bits demand_table (demand_slots d)
 
-  elements-joined : joined (location_parts ++ four) ≡ table
+  elements-joined : joined (location_parts ++ generics) ≡ table
   unfolding table_bits
   elements-joined =
-      then-four location_parts (4 ∷ 9 ∷ 11 ∷ 15 ∷ []) (demand_generics_in d) (location_demand-joined location asked)
-      ∙ sym (rw (
-        location-slot location,
-        type3_slot_lem 4 d.group_report_response,
-        type3_slot_lem 9 d.authentication_uplink,
-        type3_slot_lem 11 d.extended_capabilities,
-        type3_slot_lem 15 d.proprietary,
-      ))
+      then-generics location_parts (demand_generics_in d) (location_demand-joined location asked) ∙ sym (rw (location-slot location))
 
   behind-joined : joined behind ≡ demand_options_bits d table
   unfolding joined
@@ -263,9 +247,9 @@ module _ (d : ULocationUpdateDemand) {a : LocationAsked} (asked : a ≡ demand_l
   demand-in_parts = in_parts_lem (demand_front (demand_head_in d)) behind (demand_more d) behind-joined front-bits
 
   -- without a location demand
-  pub demand-unlocated : demand_more d ≡ true → location.present ≡ false → joined (demand_front (demand_head_in d) ∷ (demand_options_parts options ++ four)) ≡ demand_bits d
+  pub demand-unlocated : demand_more d ≡ true → location.present ≡ false → joined (demand_front (demand_head_in d) ∷ (demand_options_parts options ++ generics)) ≡ demand_bits d
   demand-unlocated m p =
-      ap (λ (xs : List Bits). joined (demand_front (demand_head_in d) ∷ (demand_options_parts options ++ (xs ++ four)))) (sym (unlocated a.list a.content location p))
+      ap (λ (xs : List Bits). joined (demand_front (demand_head_in d) ∷ (demand_options_parts options ++ (xs ++ generics)))) (sym (unlocated a.list a.content location p))
       ∙ demand-in_parts.all m
 
   location-length : length (joined location_parts) ≡ cond location.present (16 + a.content) 0
@@ -273,31 +257,31 @@ module _ (d : ULocationUpdateDemand) {a : LocationAsked} (asked : a ≡ demand_l
       optional-length 3 location_demand_bits location.present location.value location_parts (location_demand-joined location asked)
       (ap (λ (x : LocationAsked). x.content) asked)
 
-  behind-length : (four_asked (demand_generics_in d)).fits ≡ true
-      → length (joined behind) ≡ demand_options_size options + (cond location.present (16 + a.content) 0 + ((four_asked (demand_generics_in d)).size + 1))
+  behind-length : (generics_asked (demand_generics_in d)).fits ≡ true
+      → length (joined behind) ≡ demand_options_size options + (cond location.present (16 + a.content) 0 + ((generics_asked (demand_generics_in d)).size + 1))
   unfolding joined
   behind-length f =
       let x : Bits = demand_first options in
       let y : Bits = addresses_bits d.ssi d.address_extension in
       omega (
         arith,
-        length-append x (y ++ joined (location_parts ++ four)),
-        length-append y (joined (location_parts ++ four)),
+        length-append x (y ++ joined (location_parts ++ generics)),
+        length-append y (joined (location_parts ++ generics)),
         length-append x y,
-        then-four-length location_parts (4 ∷ 9 ∷ 11 ∷ 15 ∷ []) (demand_generics_in d) location-length f,
+        then-generics-length location_parts (demand_generics_in d) location-length f,
       )
 
   -- how long it is
-  demand-length : (four_asked (demand_generics_in d)).fits ≡ true
+  demand-length : (generics_asked (demand_generics_in d)).fits ≡ true
       → 10 + (cond d.ciphering_parameters.present 10 0 + cond (demand_more d)
-      (demand_options_size options + (cond location.present (16 + a.content) 0 + ((four_asked (demand_generics_in d)).size + 1))) 0)
+      (demand_options_size options + (cond location.present (16 + a.content) 0 + ((generics_asked (demand_generics_in d)).size + 1))) 0)
       ≡ length (demand_bits d)
   demand-length f = rw (← behind-length f) (omega (arith, front_length (demand_head_in d), demand-in_parts.long))
 
 -- THE ANSWERS to the questions
-pub demand-answered : (d : ULocationUpdateDemand) (h : DemandHead) (located : Bool) (l : LocationAsked) (g : FourGenerics) → DemandIs d h located l g
+pub demand-answered : (d : ULocationUpdateDemand) (h : DemandHead) (located : Bool) (l : LocationAsked) (gs : List Generic) → DemandIs d h located l gs
     → Answered (demand_asked d) (demand_bits d) (record {
-      fits = all_of (demand_head_tests h) && (all_of (demand_options_tests h.options) && (l.fits && (four_asked g).fits));
+      fits = all_of (demand_head_tests h) && (all_of (demand_options_tests h.options) && (l.fits && (generics_asked gs).fits));
       ciphered = beq h.ciphering_parameters.present (eqb h.cipher_control 1);
       attached = l.one;
       formed = l.listed;
@@ -307,10 +291,10 @@ pub demand-answered : (d : ULocationUpdateDemand) (h : DemandHead) (located : Bo
       short = l.short;
       size =
           10 + (cond h.ciphering_parameters.present 10 0 + cond (eqb h.obit 1)
-          (demand_options_size h.options + (cond located (16 + l.content) 0 + ((four_asked g).size + 1))) 0);
+          (demand_options_size h.options + (cond located (16 + l.content) 0 + ((generics_asked gs).size + 1))) 0);
     })
 unfolding demand_asked
-demand-answered d h located l g w =
+demand-answered d h located l gs w =
     rw (w.head, w.there, w.asked, w.generics, one_bit (demand_more d))
     (record { is = rw (demand-fits d); size = λ f t. demand-length d refl (demand-generics d f) })
 
@@ -343,7 +327,7 @@ demand-alone-answered d h e m =
     demand-answered d (demand_head_in d) d.group_identity_location_demand.present (demand_location_asked d.group_identity_location_demand) (demand_generics_in d)
     (record { head = refl; there = refl; asked = refl; generics = refl }) in
     let fits : (all_of (demand_head_tests (demand_head_in d)) && (all_of (demand_options_tests (demand_head_in d).options)
-    && ((demand_location_asked d.group_identity_location_demand).fits && (four_asked (demand_generics_in d)).fits))) ≡ all_of (demand_head_tests (demand_head_in d)) =
+    && ((demand_location_asked d.group_identity_location_demand).fits && (generics_asked (demand_generics_in d)).fits))) ≡ all_of (demand_head_tests (demand_head_in d)) =
     rw (class.0, mode.0, la.0, ssi.0, ssi.1, location.0, response.0, uplink.0, capabilities.0, capabilities.1) (and-true (all_of (demand_head_tests (demand_head_in d)))) in
     let is =
     ap₂ (λ (f p : Bool). let l = demand_location_asked (record { present = p; value = d.group_identity_location_demand.value }) in as_asked (record {

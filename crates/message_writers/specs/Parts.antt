@@ -1,126 +1,125 @@
--- What two of the messages share as they are written: the two addresses, four generic elements in a row; and how long type 2 elements are.
-use Rattle.std.specs.Prelude.{ℕ, ◌+◌, ◌≤◌, ◌≡◌, refl, Bool, true, false, cond, ◌&&◌, ◌||◌, List, [], ◌∷◌, ◌++◌, length, get_or}
-use Rattle.std.proofs.Common.{arith, ap, ap₂, ◌∙◌, append-nil, length-append}
-use Rattle.std.proofs.Math.Bool.{and-true}
+-- What two of the messages share as they are written: the two addresses, generic elements in a row; and how long type 2 elements are.
+use Rattle.std.specs.Prelude.{ℕ, ◌+◌, ◌*◌, ◌<◌, ◌≤◌, ◌≡◌, refl, Bool, true, false, cond, List, [], ◌∷◌, ◌++◌, map, length, take, get_or, leb, sum_by}
+use Rattle.std.proofs.Common.{arith, sym, ap, ap₂, ◌∙◌, append-nil, length-append, leb-true}
+use Rattle.std.specs.List.{list_all, list_any}
+use Rattle.std.proofs.lemmas.List.{map_more}
+use Rattle.std.proofs.lemmas.List.Sums.{sum_by-cons, sum_by-le, AllPass-from_list_all}
 use Rattle.bits.specs.Bits.{Bits, digits}
 use Rattle.bits.specs.BitsLaws.{length_digits}
 use Rattle.bits.specs.Placed.{Placed}
-use Rattle.bits.specs.Written.{Written, written, joined}
+use Rattle.bits.specs.Written.{Written, written, next, joined}
 use Rattle.bits.specs.WrittenLaws.{Octets}
-use Rattle.bits.specs.PutsLaws.{Puts, ◌⨾◌, one, write-nothing, joined-append}
+use Rattle.bits.specs.PutsLaws.{Puts, ◌⨾◌, nothing, one, write-nothing, joined-append}
 use Rattle.elements.specs.Table.{mbit_width}
 use Rattle.elements.specs.Numbers.{held, option_all, type2_bits, in_u64, flag_width}
 use Rattle.elements.proofs.NumbersLaws.{both, neither}
 use Rattle.elements.specs.ClassOfMs.{class_bits, numbers_bits}
 use Rattle.elements.specs.EnergySaving.{saving_bits}
 use Rattle.elements.specs.Generics.{type3_fits}
-use Rattle.elements.specs.Kinds.{type3_held}
+use Rattle.elements.specs.TableWritten.{table_bits}
+use Rattle.elements.specs.Kinds.{row, generic_type3, identifier_of, content_bits, type3_held, type3_slot}
 use Rattle.elements.specs.declared.class_of_ms.ClassOfMs.{ClassOfMs}
 use Rattle.elements.specs.declared.energy_saving_information.EnergySavingInformation.{EnergySavingInformation}
 use Rattle.elements.specs.declared.typed_pdu_fields.OptionalU64.{OptionalU64}
 use Rattle.elements.specs.declared.typed_pdu_fields.OptionalType3.{OptionalType3}
-use Rattle.element_writers.specs.WrittenElements.{type3_size, type3_size_lem}
+use Rattle.element_writers.specs.WrittenElements.{write_type3, type3_size, type3_size_lem, type3-written}
 use Rattle.messages.specs.Head.{ssi_width, extension_width}
-use Rattle.messages.specs.Questions.{all_of}
-use Rattle.message_writers.specs.WritesLaws.{generic_bits}
-use Rattle.message_writers.specs.declared.parts.FourGenerics.{FourGenerics}
-use Rattle.message_writers.specs.declared.parts.FourAsked.{FourAsked}
+use Rattle.message_writers.specs.WritesLaws.{generic_bits, type3_slot_lem}
+use Rattle.message_writers.specs.declared.parts.GenericsAsked.{GenericsAsked}
 
 abbrev pub addresses_bits : OptionalU64 → OptionalU64 → Bits
 addresses_bits s e = type2_bits (digits ssi_width) (in_u64 s) ++ type2_bits (digits extension_width) (in_u64 e)
 
+-- ## generic elements in a row
+
 abbrev pub fits3 : OptionalType3 → Bool
 fits3 o = option_all type3_fits (type3_held o)
 
-abbrev pub four_asked : FourGenerics → FourAsked
-four_asked g = record {
-  fits = fits3 g.first && (fits3 g.second && (fits3 g.third && fits3 g.fourth));
-  size = type3_size g.first + (type3_size g.second + (type3_size g.third + type3_size g.fourth));
-}
+-- one of them: its identifier, and the element, which may be absent
+abbrev pub Generic : Type 0
+Generic = ℕ × OptionalType3
 
-abbrev pub four_tests : FourGenerics → List Bool
-four_tests g = fits3 g.first ∷ fits3 g.second ∷ fits3 g.third ∷ fits3 g.fourth ∷ []
+abbrev pub is_there : Generic → Bool
+is_there g = g.1.present
 
-pub four_tests_lem : (g : FourGenerics) → all_of (four_tests g) ≡ (four_asked g).fits
-four_tests_lem g = ap (λ (b : Bool). fits3 g.first && (fits3 g.second && (fits3 g.third && b))) (and-true (fits3 g.fourth))
+abbrev pub generic_fits : Generic → Bool
+generic_fits g = fits3 g.1
 
--- the four, and the closing M-bit
-abbrev pub four_parts : List ℕ → FourGenerics → List Bits
-four_parts is g =
-    generic_bits (get_or is 0 0) g.first ∷ generic_bits (get_or is 1 0) g.second ∷ generic_bits (get_or is 2 0) g.third ∷ generic_bits (get_or is 3 0) g.fourth
-    ∷ digits mbit_width 0 ∷ []
+abbrev pub generic_size : Generic → ℕ
+generic_size g = type3_size g.1
 
--- each of them
-pub record FourFit (g : FourGenerics) : Type 0 where
-  pub first : fits3 g.first ≡ true
-  pub second : fits3 g.second ≡ true
-  pub third : fits3 g.third ≡ true
-  pub fourth : fits3 g.fourth ≡ true
+abbrev pub generic_part : Generic → Bits
+generic_part g = generic_bits g.0 g.1
 
-pub four_fit : (g : FourGenerics) → (four_asked g).fits ≡ true → FourFit g
-four_fit g h =
-    let a = both (fits3 g.first) _ h in
-    let b = both (fits3 g.second) _ a.1 in
-    let c = both (fits3 g.third) _ b.1 in
-    record { first = a.0; second = b.0; third = c.0; fourth = c.1 }
+-- whether each fits, and how many bits they have together
+abbrev pub generics_asked : List Generic → GenericsAsked
+generics_asked gs = record { fits = list_all generic_fits gs; size = sum_by generic_size gs }
 
-four-joined : (is : List ℕ) (g : FourGenerics)
-    → joined (four_parts is g)
-    ≡ generic_bits (get_or is 0 0) g.first ++ (generic_bits (get_or is 1 0) g.second ++ (generic_bits (get_or is 2 0) g.third
-    ++ (generic_bits (get_or is 3 0) g.fourth ++ digits mbit_width 0)))
-unfolding joined
-four-joined is g = rw (append-nil (digits mbit_width 0))
+-- each of them, and the closing M-bit
+abbrev pub generics_parts : List Generic → List Bits
+generics_parts gs = map generic_part gs ++ (digits mbit_width 0 ∷ [])
+
+-- as a table has them
+abbrev pub generics_bits : List Generic → Bits
+generics_bits gs = table_bits identifier_of content_bits (map (λ g. row g.0 generic_type3) gs) (map (λ g. type3_slot g.1) gs)
 
 -- an absent element writes nothing
 pub none_there : {os : List ℕ} {a : Placed Unit} → Octets os → Puts ([] ∷ []) (written os a) (written os a)
 none_there {os} {a} o = one [] (write-nothing os a o)
 
--- none of them is there: the M-bit alone
-pub four-absent : (is : List ℕ) (g : FourGenerics) {os : List ℕ} {a : Placed Unit} {v : Written} → Octets os
-    → (g.first.present || (g.second.present || (g.third.present || g.fourth.present))) ≡ false
-    → Puts (digits mbit_width 0 ∷ []) (written os a) v → Puts (four_parts is g) (written os a) v
-four-absent is g {os} {a} o h p =
-    let x = neither g.first.present _ h in
-    let y = neither g.second.present _ x.1 in
-    let z = neither g.third.present _ y.1 in
-    let e : Puts ([] ∷ []) (written os a) (written os a) = none_there o in
-    rw (x.0, y.0, z.0, z.1) (e ⨾ (e ⨾ (e ⨾ (e ⨾ p))))
+-- none of them is there
+pub generics-absent : (gs : List Generic) {os : List ℕ} {a : Placed Unit} → Octets os → list_any is_there gs ≡ false → Puts (map generic_part gs) (written os a) (written os a)
+generics-absent [] o h = nothing
+generics-absent (g ∷ gs) o h = let x = neither (is_there g) _ h in rw x.0 (none_there o ⨾ generics-absent gs o x.1)
 
--- the bits that the four and the M-bit have
-four-length : (is : List ℕ) (g : FourGenerics) → (four_asked g).fits ≡ true → length (joined (four_parts is g)) ≡ (four_asked g).size + 1
+-- one more of them
+pub one_generic : (gs : List Generic) (i : ℕ) (d : Generic) {w v u : Written} → i < length gs → list_all generic_fits gs ≡ true → Puts (map generic_part (take i gs)) w v
+    → u ≡ next (write_type3 (get_or gs i d).0 (get_or gs i d).1) v → Puts (map generic_part (take (i + 1) gs)) w u
+one_generic gs i d h f p q = rw (map_more generic_part gs i d h) (p ⨾ type3-written _ _ (AllPass-from_list_all generic_fits gs f i d h) q)
+
+-- at most 80 bits each
+type3_most : (o : OptionalType3) → type3_size o ≤ 80
+unfolding type3_size
+type3_most o = go o.present (leb o.value.len 64) refl
+  where
+    go : (p b : Bool) → leb o.value.len 64 ≡ b → cond p (cond b (16 + o.value.len) 0) 0 ≤ 80
+    go true true e = omega (arith, leb-true o.value.len 64 e)
+    go true false e = omega arith
+    go false b e = omega arith
+
+pub generics_most : (gs : List Generic) → (generics_asked gs).size ≤ length gs * 80
+generics_most gs = sum_by-le generic_size 80 gs (λ i d h. type3_most (get_or gs i d).1)
+
+-- the bits that they and the M-bit have
+generics-length : (gs : List Generic) → (generics_asked gs).fits ≡ true → length (joined (generics_parts gs)) ≡ (generics_asked gs).size + 1
 unfolding joined
-four-length is g h =
-    let f = four_fit g h in
-    let a = generic_bits (get_or is 0 0) g.first in
-    let b = generic_bits (get_or is 1 0) g.second in
-    let c = generic_bits (get_or is 2 0) g.third in
-    let d = generic_bits (get_or is 3 0) g.fourth in
-    let z = digits mbit_width 0 in
+generics-length [] h = omega (arith, length-append (digits mbit_width 0) [], length_digits mbit_width 0)
+generics-length (g ∷ gs) h =
+    let f = both (generic_fits g) _ h in
     omega (
       arith,
-      length-append a (b ++ (c ++ (d ++ (z ++ [])))),
-      length-append b (c ++ (d ++ (z ++ []))),
-      length-append c (d ++ (z ++ [])),
-      length-append d (z ++ []),
-      length-append z [],
-      length_digits mbit_width 0,
-      type3_size_lem (get_or is 0 0) g.first f.first,
-      type3_size_lem (get_or is 1 0) g.second f.second,
-      type3_size_lem (get_or is 2 0) g.third f.third,
-      type3_size_lem (get_or is 3 0) g.fourth f.fourth,
+      length-append (generic_part g) (joined (generics_parts gs)),
+      type3_size_lem g.0 g.1 f.0,
+      sum_by-cons generic_size g gs,
+      generics-length gs f.1,
     )
 
--- BEHIND OTHER PARTS: their bits, and how many
-module _ (before : List Bits) (is : List ℕ) (g : FourGenerics) where
-  pub then-four : {xs : Bits} → joined before ≡ xs
-      → joined (before ++ four_parts is g)
-      ≡ xs ++ (generic_bits (get_or is 0 0) g.first ++ (generic_bits (get_or is 1 0) g.second ++ (generic_bits (get_or is 2 0) g.third
-      ++ (generic_bits (get_or is 3 0) g.fourth ++ digits mbit_width 0))))
-  then-four e = joined-append before (four_parts is g) ∙ ap₂ (λ (xs ys : Bits). xs ++ ys) e (four-joined is g)
+generics-joined : (gs : List Generic) → joined (generics_parts gs) ≡ generics_bits gs
+unfolding joined table_bits
+generics-joined [] = append-nil (digits mbit_width 0)
+generics-joined (g ∷ gs) = ap₂ (λ (xs ys : Bits). xs ++ ys) (sym (type3_slot_lem g.0 g.1)) (generics-joined gs)
 
-  pub then-four-length : {n : ℕ} → length (joined before) ≡ n → (four_asked g).fits ≡ true → length (joined (before ++ four_parts is g)) ≡ n + ((four_asked g).size + 1)
-  then-four-length e h =
-      ap length (joined-append before (four_parts is g)) ∙ length-append (joined before) (joined (four_parts is g)) ∙ ap₂ (λ (x y : ℕ). x + y) e (four-length is g h)
+-- BEHIND OTHER PARTS: their bits, and how many
+module _ (before : List Bits) (gs : List Generic) where
+  pub then-generics : {xs : Bits} → joined before ≡ xs → joined (before ++ generics_parts gs) ≡ xs ++ generics_bits gs
+  then-generics e = joined-append before (generics_parts gs) ∙ ap₂ (λ (xs ys : Bits). xs ++ ys) e (generics-joined gs)
+
+  pub then-generics-length : {n : ℕ} → length (joined before) ≡ n → (generics_asked gs).fits ≡ true
+      → length (joined (before ++ generics_parts gs)) ≡ n + ((generics_asked gs).size + 1)
+  then-generics-length e h =
+      ap length (joined-append before (generics_parts gs)) ∙ length-append (joined before) (joined (generics_parts gs)) ∙ ap₂ (λ (x y : ℕ). x + y) e (generics-length gs h)
+
+-- ## lengths of type 2 elements
 
 pub class-length : (m : ClassOfMs) → length (class_bits m) ≡ 24
 unfolding class_bits numbers_bits digits

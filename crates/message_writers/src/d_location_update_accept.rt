@@ -10,7 +10,7 @@ ghost use Rattle.message_writers.specs.Writes.{write_message, Answered};
 ghost use Rattle.message_writers.specs.AcceptParts.{accept_head_in, accept_generics_in, accept_front, accept_second, accept_options_tests, accept_options_size, accept_behind, accept_rest_in, AcceptGenerics, AcceptIs};
 
 use crate::PduWriter;
-use crate::parts::{FourGenerics, addresses, ask_four, flag, write_four};
+use crate::parts::{Generics, addresses, ask_generics, flag, write_generics};
 use crate::questions::Answers;
 use bits::bitbuffer::{Cursor, Digits, NO_DIGITS, Place, within};
 use element_writers::energy_saving_information::{ask_saving, then_saving};
@@ -27,14 +27,6 @@ use elements::type34_elem_id_dl::{
 };
 use elements::typed_pdu_fields::{OptionalType3, OptionalType4};
 use messages::d_location_update_accept::{AcceptHead, AcceptOptions, DLocationUpdateAccept};
-
-// The generic elements behind the location accept.
-const GENERICS: [u8; 4] = [
-    DEFAULT_GROUP_ATTACH_LIFETIME,
-    AUTHENTICATION_DOWNLINK,
-    CELL_TYPE_CONTROL,
-    PROPRIETARY,
-];
 
 // Whether anything follows the O-bit.
 fn is_more(d: DLocationUpdateAccept) -> bool
@@ -77,19 +69,19 @@ fn head_of(d: DLocationUpdateAccept) -> AcceptHead
     }
 }
 
-fn generics_of(d: DLocationUpdateAccept) -> FourGenerics
+// The generic elements behind the location accept.
+fn generics_of(d: DLocationUpdateAccept) -> Generics
     ensures { result ≡ accept_generics_in d }
 {
-    let first = d.default_group_attachment_lifetime;
-    let second = d.authentication_downlink;
-    let third = d.cell_type_control;
-    let fourth = d.proprietary;
-    FourGenerics {
-        first: first,
-        second: second,
-        third: third,
-        fourth: fourth,
-    }
+    [
+        (
+            DEFAULT_GROUP_ATTACH_LIFETIME,
+            d.default_group_attachment_lifetime,
+        ),
+        (AUTHENTICATION_DOWNLINK, d.authentication_downlink),
+        (CELL_TYPE_CONTROL, d.cell_type_control),
+        (PROPRIETARY, d.proprietary),
+    ]
 }
 
 // The bits up to the O-bit.
@@ -164,12 +156,12 @@ fn ask(
     rest: AcceptRest,
     located: bool,
     location: LocationAsked,
-    g: FourGenerics,
+    g: &Generics,
 ) -> Answers
     requires { location.content ≤ 5192 }
-    ensures { (d : DLocationUpdateAccept) → AcceptIs d h rest located location g → Answered (accept_asked d) (accept_bits d) result }
+    ensures { (d : DLocationUpdateAccept) → AcceptIs d h rest located location g.now → Answered (accept_asked d) (accept_bits d) result }
 {
-    let four = ask_four(g);
+    let generics = ask_generics(g);
     let options = h.options;
     let energy = options.energy_saving_information;
     let saving = ask_saving(energy);
@@ -177,14 +169,14 @@ fn ask(
     let security = rest.security_downlink;
     let related = rest.group_identity_security_related_information;
     let elements = type3_size(security)
-        + (width_if(located, 16 + location.content) + (four.size + 1));
+        + (width_if(located, 16 + location.content) + (generics.size + 1));
     let behind = options_size(options) + elements;
     Answers {
         fits: within(h.location_update_accept_type as u64, 3)
             & (options_fit(options, saving.fits)
                 & (type4_fits(area)
                     & (type3_fits(security)
-                        & (location.fits & (type4_fits(related) & four.fits))))),
+                        & (location.fits & (type4_fits(related) & generics.fits))))),
         ciphered: true,
         attached: location.one,
         formed: location.listed,
@@ -204,10 +196,10 @@ fn put_behind(
     security: OptionalType3,
     location: OptionalLocationAccept,
     asked: LocationAsked,
-    g: FourGenerics,
+    g: &Generics,
 ) -> Place
-    requires { AcceptGenerics security g }
-    ensures { Puts (accept_behind o security asked.list asked.content location g) (written octets.old (as_place m)) (written octets.new (as_place result)) }
+    requires { AcceptGenerics security g.now }
+    ensures { Puts (accept_behind o security asked.list asked.content location g.now) (written octets.old (as_place m)) (written octets.new (as_place result)) }
 {
     let ssi = o.ssi;
     let extension = o.address_extension;
@@ -215,17 +207,17 @@ fn put_behind(
     let m2 = m1.put(octets, second_options(o));
     let m3 = write_type3_generic(m2, octets, SECURITY_DOWNLINK, security);
     let m4 = write_location_accept(m3, octets, location, asked.list, asked.content);
-    write_four(m4, octets, GENERICS, g)
+    write_generics(m4, octets, g)
 }
 
 impl PduWriter for DLocationUpdateAccept {
     fn to_bitbuf(self, c: Cursor, octets: &mut [u8]) -> Place {
         let h = head_of(self);
         let rest = rest_of(self);
-        let g = generics_of(self);
         let location = self.group_identity_location_accept;
         let asked = ask_location_accept(location);
-        let answers = ask(h, rest, location.present, asked, g);
+        let g = generics_of(self);
+        let answers = ask(h, rest, location.present, asked, &g);
         let place = answers.start(c, octets.len());
         let None = place.halt else {
             return place;
@@ -234,7 +226,7 @@ impl PduWriter for DLocationUpdateAccept {
         if h.obit == 1 {
             let options = h.options;
             let security = rest.security_downlink;
-            return put_behind(m, octets, options, security, location, asked, g);
+            return put_behind(m, octets, options, security, location, asked, &g);
         }
         m
     }

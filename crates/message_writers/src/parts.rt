@@ -1,10 +1,10 @@
-// What two of the messages share: the two addresses, and four generic elements in a row.
-ghost use Rattle.std.specs.Prelude.{◌≡◌, true, ◌≤◌};
+// What two of the messages share: the two addresses, and generic elements in a row.
+ghost use Rattle.std.specs.Prelude.{◌≡◌, true, ◌≤◌, map};
 ghost use Rattle.bits.specs.Bits.{bit};
 ghost use Rattle.bits.specs.Placed.{as_place};
 ghost use Rattle.bits.specs.Written.{written, Holds};
 ghost use Rattle.bits.specs.PutsLaws.{Puts};
-ghost use Rattle.message_writers.specs.Parts.{addresses_bits, four_asked, four_parts};
+ghost use Rattle.message_writers.specs.Parts.{addresses_bits, generic_part, generics_asked, generics_parts};
 
 use bits::bitbuffer::{Digits, NO_DIGITS, Place};
 use element_writers::typed_pdu_fields::{then_type2, type3_fits, type3_size, write_type3_generic};
@@ -25,55 +25,46 @@ pub(crate) fn addresses(ssi: OptionalU64, extension: OptionalU64) -> Digits
     then_type2(s, extension, 24)
 }
 
-// Four generic elements that follow each other in a table.
-#[derive(Clone, Copy)]
-pub struct FourGenerics {
-    pub first: OptionalType3,
-    pub second: OptionalType3,
-    pub third: OptionalType3,
-    pub fourth: OptionalType3,
-}
+// Generic elements that follow each other in a table, each with its identifier.
+pub type Generics = [(u8, OptionalType3); 4];
 
 // What question 8 finds of them, and the bits that they have.
 #[derive(Clone, Copy)]
-pub struct FourAsked {
+pub struct GenericsAsked {
     pub fits: bool,
     pub size: usize,
 }
 
-pub(crate) fn ask_four(g: FourGenerics) -> FourAsked
-    ensures { (result ≡ four_asked g) × (result.size ≤ 320) }
+pub(crate) fn ask_generics(generics: &Generics) -> GenericsAsked
+    ensures { (result ≡ generics_asked generics.now) × (result.size ≤ 320) }
 {
-    let a = g.first;
-    let b = g.second;
-    let c = g.third;
-    let d = g.fourth;
-    FourAsked {
-        fits: type3_fits(a) & (type3_fits(b) & (type3_fits(c) & type3_fits(d))),
-        size: type3_size(a) + (type3_size(b) + (type3_size(c) + type3_size(d))),
+    GenericsAsked {
+        fits: generics.iter().all(|(_, element)| type3_fits(*element)),
+        size: generics
+            .iter()
+            .map(|(_, element)| type3_size(*element))
+            .sum(),
     }
 }
 
-// The four, and the closing M-bit; `identifiers` are theirs.
-pub(crate) fn write_four(
-    m: Place,
-    octets: &mut [u8],
-    identifiers: [u8; 4],
-    g: FourGenerics,
-) -> Place
-    requires { (four_asked g).fits ≡ true }
-    ensures { Puts (four_parts identifiers g) (written octets.old (as_place m)) (written octets.new (as_place result)) }
+// Those that are there; that there are none is known by one look.
+fn put_present(m: Place, octets: &mut [u8], generics: &Generics) -> Place
+    requires { (generics_asked generics.now).fits ≡ true }
+    ensures { Puts (map generic_part generics.now) (written octets.old (as_place m)) (written octets.new (as_place result)) }
 {
-    let a = g.first;
-    let b = g.second;
-    let c = g.third;
-    let d = g.fourth;
-    if a.present | (b.present | (c.present | d.present)) {
-        let m1 = write_type3_generic(m, octets, identifiers[0], a);
-        let m2 = write_type3_generic(m1, octets, identifiers[1], b);
-        let m3 = write_type3_generic(m2, octets, identifiers[2], c);
-        let m4 = write_type3_generic(m3, octets, identifiers[3], d);
-        return m4.put(octets, NO_DIGITS.then(0, 1));
+    let mut place = m;
+    if generics.iter().any(|(_, element)| element.present) {
+        for (identifier, element) in generics {
+            place = write_type3_generic(place, octets, *identifier, *element);
+        }
     }
-    m.put(octets, NO_DIGITS.then(0, 1))
+    place
+}
+
+// The same, and the closing M-bit.
+pub(crate) fn write_generics(m: Place, octets: &mut [u8], generics: &Generics) -> Place
+    requires { (generics_asked generics.now).fits ≡ true }
+    ensures { Puts (generics_parts generics.now) (written octets.old (as_place m)) (written octets.new (as_place result)) }
+{
+    put_present(m, octets, generics).put(octets, NO_DIGITS.then(0, 1))
 }

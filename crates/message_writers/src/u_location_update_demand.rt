@@ -7,11 +7,11 @@ ghost use Rattle.messages.specs.declared.u_location_update_demand.ULocationUpdat
 ghost use Rattle.messages.specs.Questions.{all_of};
 ghost use Rattle.messages.specs.Demand.{demand_more, demand_bits, demand_asked};
 ghost use Rattle.message_writers.specs.Writes.{write_message, Answered};
-ghost use Rattle.message_writers.specs.Parts.{four_asked};
-ghost use Rattle.message_writers.specs.DemandParts.{demand_head_in, demand_generics_in, demand_front, demand_first, demand_head_tests, demand_options_tests, demand_options_size, demand_options_parts, demand_generics_parts, demand_behind, DemandIs};
+ghost use Rattle.message_writers.specs.Parts.{generics_asked, generics_parts};
+ghost use Rattle.message_writers.specs.DemandParts.{demand_head_in, demand_generics_in, demand_front, demand_first, demand_head_tests, demand_options_tests, demand_options_size, demand_options_parts, demand_behind, DemandIs};
 
 use crate::PduWriter;
-use crate::parts::{FourGenerics, addresses, ask_four, flag, write_four};
+use crate::parts::{Generics, addresses, ask_generics, flag, write_generics};
 use crate::questions::Answers;
 use bits::bitbuffer::{Cursor, Digits, NO_DIGITS, Place, within};
 use element_writers::class_of_ms::{class_fits, type2_class};
@@ -24,13 +24,6 @@ use elements::type34_elem_id_ul::{
     AUTHENTICATION_UPLINK, EXTENDED_CAPABILITIES, GROUP_REPORT_RESPONSE, PROPRIETARY,
 };
 use messages::u_location_update_demand::{DemandHead, DemandOptions, ULocationUpdateDemand};
-
-const GENERICS: [u8; 4] = [
-    GROUP_REPORT_RESPONSE,
-    AUTHENTICATION_UPLINK,
-    EXTENDED_CAPABILITIES,
-    PROPRIETARY,
-];
 
 // Whether anything follows the O-bit.
 fn is_more(d: ULocationUpdateDemand) -> bool
@@ -72,19 +65,16 @@ fn head_of(d: ULocationUpdateDemand) -> DemandHead
     }
 }
 
-fn generics_of(d: ULocationUpdateDemand) -> FourGenerics
+// The generic elements behind the location demand.
+fn generics_of(d: ULocationUpdateDemand) -> Generics
     ensures { result ≡ demand_generics_in d }
 {
-    let first = d.group_report_response;
-    let second = d.authentication_uplink;
-    let third = d.extended_capabilities;
-    let fourth = d.proprietary;
-    FourGenerics {
-        first: first,
-        second: second,
-        third: third,
-        fourth: fourth,
-    }
+    [
+        (GROUP_REPORT_RESPONSE, d.group_report_response),
+        (AUTHENTICATION_UPLINK, d.authentication_uplink),
+        (EXTENDED_CAPABILITIES, d.extended_capabilities),
+        (PROPRIETARY, d.proprietary),
+    ]
 }
 
 // The bits up to the O-bit.
@@ -147,17 +137,17 @@ fn options_size(o: DemandOptions) -> usize
 }
 
 // The questions, of the whole record: its head, its generic elements, and `location`, which answers those of its location demand.
-fn ask(h: DemandHead, located: bool, location: LocationAsked, g: FourGenerics) -> Answers
+fn ask(h: DemandHead, located: bool, location: LocationAsked, g: &Generics) -> Answers
     requires { location.content ≤ 5192 }
-    ensures { (d : ULocationUpdateDemand) → DemandIs d h located location g → Answered (demand_asked d) (demand_bits d) result }
+    ensures { (d : ULocationUpdateDemand) → DemandIs d h located location g.now → Answered (demand_asked d) (demand_bits d) result }
 {
-    let four = ask_four(g);
+    let generics = ask_generics(g);
     let options = h.options;
     let ciphering = h.ciphering_parameters;
-    let elements = width_if(located, 16 + location.content) + (four.size + 1);
+    let elements = width_if(located, 16 + location.content) + (generics.size + 1);
     let behind = options_size(options) + elements;
     Answers {
-        fits: head_fits(h) & (options_fit(options) & (location.fits & four.fits)),
+        fits: head_fits(h) & (options_fit(options) & (location.fits & generics.fits)),
         ciphered: ciphering.present == (h.cipher_control == 1),
         attached: location.one,
         formed: location.listed,
@@ -186,27 +176,27 @@ fn put_located(
     h: DemandHead,
     location: OptionalLocationDemand,
     asked: LocationAsked,
-    g: FourGenerics,
+    g: &Generics,
 ) -> Place
-    requires { (four_asked g).fits ≡ true }
-    ensures { Puts (demand_front h ∷ demand_behind h.options asked.list asked.content location g) (written octets.old (as_place m)) (written octets.new (as_place result)) }
+    requires { (generics_asked g.now).fits ≡ true }
+    ensures { Puts (demand_front h ∷ demand_behind h.options asked.list asked.content location g.now) (written octets.old (as_place m)) (written octets.new (as_place result)) }
 {
     let options = h.options;
     let m1 = m.put(octets, front(h));
     let m2 = put_options(m1, octets, options);
     let m3 = write_location_demand(m2, octets, location, asked.list, asked.content);
-    write_four(m3, octets, GENERICS, g)
+    write_generics(m3, octets, g)
 }
 
 // The same without one: no list is looked at.
-fn put_unlocated(m: Place, octets: &mut [u8], h: DemandHead, g: FourGenerics) -> Place
-    requires { (four_asked g).fits ≡ true }
-    ensures { Puts (demand_front h ∷ (demand_options_parts h.options ++ demand_generics_parts g)) (written octets.old (as_place m)) (written octets.new (as_place result)) }
+fn put_unlocated(m: Place, octets: &mut [u8], h: DemandHead, g: &Generics) -> Place
+    requires { (generics_asked g.now).fits ≡ true }
+    ensures { Puts (demand_front h ∷ (demand_options_parts h.options ++ generics_parts g.now)) (written octets.old (as_place m)) (written octets.new (as_place result)) }
 {
     let options = h.options;
     let m1 = m.put(octets, front(h));
     let m2 = put_options(m1, octets, options);
-    write_four(m2, octets, GENERICS, g)
+    write_generics(m2, octets, g)
 }
 
 // A message with something behind the O-bit; its location demand is copied only where it is there, before anything is written.
@@ -214,18 +204,18 @@ fn write_more(d: ULocationUpdateDemand, h: DemandHead, c: Cursor, octets: &mut [
     requires { (h ≡ demand_head_in d) × (demand_more d ≡ true) }
     ensures { written octets.new (as_place result) ≡ write_message (demand_asked d) (demand_bits d) octets.old c }
 {
-    let g = generics_of(d);
     let location = d.group_identity_location_demand;
     let asked = ask_location_demand(location);
-    let answers = ask(h, location.present, asked, g);
+    let g = generics_of(d);
+    let answers = ask(h, location.present, asked, &g);
     let place = answers.start(c, octets.len());
     let None = place.halt else {
         return place;
     };
     if location.present {
-        return put_located(place, octets, h, location, asked, g);
+        return put_located(place, octets, h, location, asked, &g);
     }
-    put_unlocated(place, octets, h, g)
+    put_unlocated(place, octets, h, &g)
 }
 
 // A message that ends with its O-bit.

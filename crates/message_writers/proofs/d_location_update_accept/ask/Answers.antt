@@ -5,7 +5,7 @@ use Rattle.message_writers.proofs.d_location_update_accept.ask.Goals as goal
 
 pub overflow_add-result : goal.overflow_add-result
 overflow_add-result c =
-    omega (arith, c.type3_size.ensures.1, c.width_if.ensures.1, c.ask_four-four.ensures.1, c.options_size.ensures.1, c.requires)
+    omega (arith, c.type3_size.ensures.1, c.width_if.ensures.1, c.ask_generics-generics.ensures.1, c.options_size.ensures.1, c.requires)
 
 pub returns : goal.returns
 returns c =
@@ -22,6 +22,6 @@ returns c =
       c.options_size.ensures.0,
       c.type3_size.ensures.0,
       c.width_if.ensures.0,
-      c.ask_four-four.ensures.0,
+      c.ask_generics-generics.ensures.0,
     )
-    (accept-answered d a.h a.rest a.located a.location a.g w)
+    (accept-answered d a.h a.rest a.located a.location a.g.now w)

@@ -5,8 +5,8 @@ use Rattle.message_writers.specs.Parts.{addresses_most}
 use Rattle.message_writers.specs.AcceptParts.{second-most}
 use Rattle.message_writers.proofs.d_location_update_accept.put_behind.Goals as goal
 
-pub write_four-requires : goal.write_four-requires
-write_four-requires c =
+pub write_generics-requires : goal.write_generics-requires
+write_generics-requires c =
     c.requires.others
 
 pub returns : goal.returns
@@ -14,4 +14,4 @@ returns c =
     let a = c.args in
     field c.addresses.ensures (addresses_most a.o.ssi a.o.address_extension) c.put-m1.ensures
     ⨾ (field c.second_options.ensures (second-most a.o) c.put-m2.ensures
-    ⨾ (type3-written 3 a.security c.requires.security c.write_type3_generic-m3.ensures ⨾ (c.write_location_accept-m4.ensures ⨾ c.write_four.ensures)))
+    ⨾ (type3-written 3 a.security c.requires.security c.write_type3_generic-m3.ensures ⨾ (c.write_location_accept-m4.ensures ⨾ c.write_generics.ensures)))

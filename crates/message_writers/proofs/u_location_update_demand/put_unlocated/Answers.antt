@@ -5,4 +5,4 @@ use Rattle.message_writers.proofs.u_location_update_demand.put_unlocated.Goals a
 
 pub returns : goal.returns
 returns c =
-    field c.front.ensures (front-most c.args.h) c.put-m1.ensures ⨾ (c.put_options-m2.ensures ⨾ c.write_four.ensures)
+    field c.front.ensures (front-most c.args.h) c.put-m1.ensures ⨾ (c.put_options-m2.ensures ⨾ c.write_generics.ensures)

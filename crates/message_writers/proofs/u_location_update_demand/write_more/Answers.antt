@@ -4,7 +4,7 @@ use mathlib.Core.Path.{◌≡◌, refl}
 use mathlib.Core.Bool.{true}
 use Rattle.bits.specs.PlacedLaws.{Fact, fact}
 use Rattle.message_writers.specs.WritesLaws.{asking, all-passed, message-written, message-refused}
-use Rattle.message_writers.specs.Parts.{four_asked}
+use Rattle.message_writers.specs.Parts.{generics_asked}
 use Rattle.message_writers.specs.DemandParts.{demand-generics, demand-in_parts, demand-unlocated}
 use Rattle.message_writers.proofs.u_location_update_demand.write_more.Goals as goal
 use Rattle.message_writers.proofs.u_location_update_demand.write_more.Goals.{After-start-place}
@@ -16,11 +16,11 @@ asked v =
     fact (asking (v.ask-answers.ensures a.d (record { head = v.requires.0; there = refl; asked = v.ask_location_demand-asked.ensures.0; generics = v.generics_of-g.ensures })) a.octets.now a.c v.start-place.result v.start-place.ensures)
 
 -- where all are passed, the generic elements fit
-four_fit : (v : After-start-place) → v.start-place.result.halt ≡ None → (four_asked v.generics_of-g.result).fits ≡ true
-four_fit v t = rw v.generics_of-g.ensures (demand-generics v.args.d (all-passed (asked v).holds t).fits)
+generics_fit : (v : After-start-place) → v.start-place.result.halt ≡ None → (generics_asked v.generics_of-g.result).fits ≡ true
+generics_fit v t = rw v.generics_of-g.ensures (demand-generics v.args.d (all-passed (asked v).holds t).fits)
 
 pub put_located-requires : goal.put_located-requires
-put_located-requires c = four_fit ((goal.at.put_located-requires c).After-start-place) c.in-None.is
+put_located-requires c = generics_fit ((goal.at.put_located-requires c).After-start-place) c.in-None.is
 
 pub returns-then-location : goal.returns-then-location
 returns-then-location c =
@@ -28,7 +28,7 @@ returns-then-location c =
     (rw (c.requires.0, c.generics_of-g.ensures) at c.put_located.ensures)
 
 pub put_unlocated-requires : goal.put_unlocated-requires
-put_unlocated-requires c = four_fit ((goal.at.put_unlocated-requires c).After-start-place) c.in-None.is
+put_unlocated-requires c = generics_fit ((goal.at.put_unlocated-requires c).After-start-place) c.in-None.is
 
 pub returns : goal.returns
 returns c =
