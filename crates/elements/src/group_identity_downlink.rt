@@ -93,7 +93,7 @@ impl GroupIdentityDownlink {
         let (kind, c1) = c.read::<u8>(octets, 1)?;
         let (attachment, c2) = read_optional_attachment(c1, octets, kind == 0)?;
         let (detachment, c3) = read_optional(c2, octets, kind == 1, 2)?;
-        let (address, c4) = read_address(c3, octets, true)?;
+        let (address, c4) = read_address::<true>(c3, octets)?;
         Ok((group_of(attachment, detachment, address), c4))
     }
 }

@@ -90,7 +90,7 @@ impl GroupIdentityUplink {
         let (kind, c1) = c.read::<u8>(octets, 1)?;
         let (class_of_usage, c2) = read_optional(c1, octets, kind == 0, 3)?;
         let (detachment, c3) = read_optional(c2, octets, kind == 1, 2)?;
-        let (address, c4) = read_address(c3, octets, false)?;
+        let (address, c4) = read_address::<false>(c3, octets)?;
         Ok((group_of(class_of_usage, detachment, address), c4))
     }
 }
