@@ -37,15 +37,15 @@ fn read_parts(
     ))
 }
 
-// A group's address: `all` says whether type 3 has all parts, as in a downlink group, or none, as in an uplink one.
-pub fn read_address(c: Cursor, octets: &[u8], all: bool) -> Read<GroupAddress>
-    ensures { as_read result ≡ at (typed_address (forms_by all)) octets.now c }
+// A group's address: `ALL` says whether type 3 has all parts, as in a downlink group, or none, as in an uplink one.
+pub fn read_address<const ALL: bool>(c: Cursor, octets: &[u8]) -> Read<GroupAddress>
+    ensures { as_read result ≡ at (typed_address (forms_by ALL)) octets.now c }
 {
     let (address_type, c1) = c.read::<u8>(octets, 2)?;
     match address_type {
         0 => read_parts(c1, octets, true, false, false),
         1 => read_parts(c1, octets, true, true, false),
         2 => read_parts(c1, octets, false, false, true),
-        _ => read_parts(c1, octets, all, all, all),
+        _ => read_parts(c1, octets, ALL, ALL, ALL),
     }
 }

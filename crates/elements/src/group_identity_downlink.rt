@@ -51,20 +51,6 @@ const ZERO: GroupIdentityDownlink = GroupIdentityDownlink {
     vgssi_present: false,
 };
 
-impl OptionalDownlinks {
-    // The same, taken part by part: taken whole, what stands behind `present` is copied off its alignment.
-    pub fn part_by_part(self) -> OptionalDownlinks
-        ensures { result ≡ self }
-    {
-        let groups = self.groups;
-        OptionalDownlinks {
-            present: self.present,
-            count: self.count,
-            groups: groups,
-        }
-    }
-}
-
 // The group of its parts.
 fn group_of(
     attachment: Option<GroupIdentityAttachment>,
@@ -105,15 +91,9 @@ impl GroupIdentityDownlink {
         ensures { as_read result ≡ at downlink octets.now c }
     {
         let (kind, c1) = c.read::<u8>(octets, 1)?;
-        let t = read_optional_attachment(c1, octets, kind == 0);
-        let Ok((attachment, c2)) = t else {
-            return Err(t.unwrap_err());
-        };
+        let (attachment, c2) = read_optional_attachment(c1, octets, kind == 0)?;
         let (detachment, c3) = read_optional(c2, octets, kind == 1, 2)?;
-        let a = read_address(c3, octets, true);
-        let Ok((address, c4)) = a else {
-            return Err(a.unwrap_err());
-        };
+        let (address, c4) = read_address::<true>(c3, octets)?;
         Ok((group_of(attachment, detachment, address), c4))
     }
 }

@@ -58,23 +58,6 @@ fn absent(verdict: Moved) -> Judged<OptionalLocationAccept>
     }
 }
 
-impl OptionalLocationAccept {
-    // The same, its list taken part by part.
-    pub fn part_by_part(self) -> OptionalLocationAccept
-        ensures { result ≡ self }
-    {
-        let value = self.value;
-        let list = value.group_identity_downlink;
-        OptionalLocationAccept {
-            present: self.present,
-            value: GroupIdentityLocationAccept {
-                group_identity_accept_reject: value.group_identity_accept_reject,
-                group_identity_downlink: list.part_by_part(),
-            },
-        }
-    }
-}
-
 impl GroupIdentityLocationAccept {
     // The content of `len` bits: two bits, the O-bit, and behind an O-bit of 1 the list's slot and the closing M-bit. It has to
     // end where its length said.
@@ -95,12 +78,11 @@ impl GroupIdentityLocationAccept {
             return refused(v.unwrap_err());
         };
         if c3.at - c.at == len {
-            let list = r.value;
             return Judged {
                 verdict: Ok(c3),
                 value: GroupIdentityLocationAccept {
                     group_identity_accept_reject: accept_reject,
-                    group_identity_downlink: list.part_by_part(),
+                    group_identity_downlink: r.value,
                 },
             };
         }
@@ -128,12 +110,11 @@ pub fn read_location_accept_slot(
     let Ok(c2) = v else {
         return absent(v);
     };
-    let location = r.value;
     Judged {
         verdict: Ok(c2),
         value: OptionalLocationAccept {
             present: true,
-            value: location,
+            value: r.value,
         },
     }
 }

@@ -58,23 +58,6 @@ fn absent(verdict: Moved) -> Judged<OptionalLocationDemand>
     }
 }
 
-impl OptionalLocationDemand {
-    // The same, its list taken part by part.
-    pub fn part_by_part(self) -> OptionalLocationDemand
-        ensures { result ≡ self }
-    {
-        let value = self.value;
-        let list = value.group_identity_uplink;
-        OptionalLocationDemand {
-            present: self.present,
-            value: GroupIdentityLocationDemand {
-                group_identity_attach_detach_mode: value.group_identity_attach_detach_mode,
-                group_identity_uplink: list.part_by_part(),
-            },
-        }
-    }
-}
-
 impl GroupIdentityLocationDemand {
     // The content of `len` bits: two bits, the O-bit, and behind an O-bit of 1 the list's slot and the closing M-bit. It has to
     // end where its length said.
@@ -98,12 +81,11 @@ impl GroupIdentityLocationDemand {
             return refused(v.unwrap_err());
         };
         if c3.at - c.at == len {
-            let list = r.value;
             return Judged {
                 verdict: Ok(c3),
                 value: GroupIdentityLocationDemand {
                     group_identity_attach_detach_mode: mode,
-                    group_identity_uplink: list.part_by_part(),
+                    group_identity_uplink: r.value,
                 },
             };
         }
@@ -131,12 +113,11 @@ pub fn read_location_demand_slot(
     let Ok(c2) = v else {
         return absent(v);
     };
-    let location = r.value;
     Judged {
         verdict: Ok(c2),
         value: OptionalLocationDemand {
             present: true,
-            value: location,
+            value: r.value,
         },
     }
 }

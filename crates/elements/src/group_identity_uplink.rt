@@ -48,20 +48,6 @@ const ZERO: GroupIdentityUplink = GroupIdentityUplink {
     vgssi_present: false,
 };
 
-impl OptionalUplinks {
-    // The same, taken part by part: taken whole, what stands behind `present` is copied off its alignment.
-    pub fn part_by_part(self) -> OptionalUplinks
-        ensures { result ≡ self }
-    {
-        let groups = self.groups;
-        OptionalUplinks {
-            present: self.present,
-            count: self.count,
-            groups: groups,
-        }
-    }
-}
-
 // The group of its parts.
 fn group_of(
     class_of_usage: Option<u8>,
@@ -104,10 +90,7 @@ impl GroupIdentityUplink {
         let (kind, c1) = c.read::<u8>(octets, 1)?;
         let (class_of_usage, c2) = read_optional(c1, octets, kind == 0, 3)?;
         let (detachment, c3) = read_optional(c2, octets, kind == 1, 2)?;
-        let a = read_address(c3, octets, false);
-        let Ok((address, c4)) = a else {
-            return Err(a.unwrap_err());
-        };
+        let (address, c4) = read_address::<false>(c3, octets)?;
         Ok((group_of(class_of_usage, detachment, address), c4))
     }
 }

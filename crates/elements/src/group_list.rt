@@ -59,11 +59,7 @@ pub fn read_list_slot<L: GroupList>(
 ) -> Judged<L>
     ensures { result ≡ list_answer L.kind (at (nested_slot_if L.kind identifier there) octets.now c) }
 {
-    let from = Cursor {
-        at: c.at,
-        end: c.end,
-    };
-    let l = read_list_front(from, octets, there, identifier);
+    let l = read_list_front(c, octets, there, identifier);
     let Ok((front, first)) = l else {
         return refused(l.unwrap_err());
     };

@@ -80,7 +80,7 @@ fn record_of(
         group_identity_attach_detach_mode: head.group_identity_attach_detach_mode,
         proprietary: before[0].into(),
         group_report_response: before[1].into(),
-        group_identity_downlink: list.part_by_part(),
+        group_identity_downlink: list,
         group_identity_security_related_information: behind[3].into(),
     }
 }
@@ -143,20 +143,18 @@ impl Pdu for DAttachDetachGroupIdentity {
         octets: &[u8],
         skipping: bool,
     ) -> MessageRead<DAttachDetachGroupIdentity> {
-        let len = octets.len();
-        let all = &octets[0..len];
-        let h = read_head(c, all);
+        let h = read_head(c, octets);
         let Ok((head, c1)) = h else {
             return unread(h.unwrap_err());
         };
-        let e = read_empty_table(c1, all, head.obit == 1);
+        let e = read_empty_table(c1, octets, head.obit == 1);
         let Ok(c2) = e else {
-            let a = scan_part(c1, all, &TABLE, 0, 2, false, skipping);
+            let a = scan_part(c1, octets, &TABLE, 0, 2, false, skipping);
             let v = a.verdict;
             let Ok(c3) = v else {
                 return unread(v.unwrap_err());
             };
-            let d = read_list_slot(c3, all, true, GROUP_IDENTITY_DOWNLINK);
+            let d = read_list_slot(c3, octets, true, GROUP_IDENTITY_DOWNLINK);
             let w = d.verdict;
             let Ok(c4) = w else {
                 return unread(w.unwrap_err());
@@ -164,9 +162,9 @@ impl Pdu for DAttachDetachGroupIdentity {
             let front = a.value;
             let before = front.generics;
             let list = d.value;
-            let z = read_closing_mbit(c4, all);
+            let z = read_closing_mbit(c4, octets);
             let Ok(c5) = z else {
-                let b = scan_part(c4, all, &TABLE, 3, 4, true, skipping);
+                let b = scan_part(c4, octets, &TABLE, 3, 4, true, skipping);
                 let x = b.verdict;
                 let Ok(c6) = x else {
                     return unread(x.unwrap_err());

@@ -167,7 +167,7 @@ fn record_of(
         scch_information_and_distribution_on_18th_frame: scch,
         new_registered_area: before[0].into(),
         security_downlink: before[1].into(),
-        group_identity_location_accept: location.part_by_part(),
+        group_identity_location_accept: location,
         default_group_attachment_lifetime: behind[3].into(),
         authentication_downlink: behind[4].into(),
         group_identity_security_related_information: behind[5].into(),

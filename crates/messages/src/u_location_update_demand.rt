@@ -172,7 +172,7 @@ fn record_of(
         la_information: la_information,
         ssi: ssi,
         address_extension: address_extension,
-        group_identity_location_demand: location.part_by_part(),
+        group_identity_location_demand: location,
         group_report_response: generics[1].into(),
         authentication_uplink: generics[2].into(),
         extended_capabilities: generics[3].into(),

@@ -9,22 +9,22 @@ use Rattle.elements.proofs.group_address.read_address.Goals as goal
 
 pub returns-in_err-address_type : goal.returns-in_err-address_type
 unfolding word
-returns-in_err-address_type c = handed_up _ c.from_residual.ensures.1 (stop _ (from c.in_err-address_type.ensures))
+returns-in_err-address_type g c = handed_up _ c.from_residual.ensures.1 (stop _ (from c.in_err-address_type.ensures))
 
 pub returns-in-0 : goal.returns-in-0
 unfolding word
-returns-in-0 c = of_type _ 0 (type_0 c.args.all) (from c.in_ok-address_type.ensures) c.in-0.is c.read_parts.ensures
+returns-in-0 g c = of_type _ 0 (type_0 _) (from c.in_ok-address_type.ensures) c.in-0.is c.read_parts.ensures
 
 pub returns-in-1 : goal.returns-in-1
 unfolding word
-returns-in-1 c = of_type _ 1 (type_1 c.args.all) (from c.in_ok-address_type.ensures) c.in-1.is c.read_parts-in-1.ensures
+returns-in-1 g c = of_type _ 1 (type_1 _) (from c.in_ok-address_type.ensures) c.in-1.is c.read_parts-in-1.ensures
 
 pub returns-in-2 : goal.returns-in-2
 unfolding word
-returns-in-2 c = of_type _ 2 (type_2 c.args.all) (from c.in_ok-address_type.ensures) c.in-2.is c.read_parts-in-2.ensures
+returns-in-2 g c = of_type _ 2 (type_2 _) (from c.in_ok-address_type.ensures) c.in-2.is c.read_parts-in-2.ensures
 
 pub returns-in_default : goal.returns-in_default
 unfolding word
-returns-in_default c =
+returns-in_default g c =
     let e = from c.in_ok-address_type.ensures in
-    of_type _ 3 (type_3 c.args.all) e (omega (arith, field-small 2 e)) c.read_parts-in_default.ensures
+    of_type _ 3 (type_3 _) e (omega (arith, field-small 2 e)) c.read_parts-in_default.ensures

@@ -3,7 +3,7 @@ use Rattle.std.specs.Prelude.{Some, None}
 use Rattle.std.proofs.Common.{sym}
 use Rattle.bits.specs.Reader.{word}
 use Rattle.bits.specs.ReaderLaws.{local·rules, local_tail, optional-local}
-use Rattle.bits.specs.PlacedLaws.{so, from, refused_by, handed_up, step, stop}
+use Rattle.bits.specs.PlacedLaws.{so, from, handed_up, step, stop}
 use Rattle.elements.specs.Groups.{downlink, downlink_address}
 use Rattle.elements.specs.GroupListLaws.{attachment_info-local, downlink_address-local}
 use Rattle.elements.proofs.PlacedOptional.{from-option, ends}
@@ -13,34 +13,32 @@ pub returns-in_err-kind : goal.returns-in_err-kind
 unfolding word downlink
 returns-in_err-kind c = handed_up _ c.from_residual.ensures.1 (stop _ (from c.in_err-kind.ensures))
 
-pub returns-in_default : goal.returns-in_default
+pub returns-in_err-attachment : goal.returns-in_err-attachment
 unfolding word downlink
-returns-in_default c =
-    so
-    (step _ (from c.in_ok-kind.ensures) (search local·rules)
-    (stop _ (refused_by c.read_optional_attachment-t.ensures c.unwrap_err.ensures)))
+returns-in_err-attachment c =
+    handed_up _ c.from_residual-in_err-attachment.ensures.1
+    (step _ (from c.in_ok-kind.ensures) (search local·rules) (stop _ (from c.in_err-attachment.ensures)))
 
 pub returns-in_err-detachment : goal.returns-in_err-detachment
 unfolding word downlink
 returns-in_err-detachment c =
     handed_up _ c.from_residual-in_err-detachment.ensures.1
     (step _ (from c.in_ok-kind.ensures) (search local·rules)
-    (step _ (from c.in-Ok.ensures) (local_tail (optional-local Some None _ _ attachment_info-local)) (stop _ (from c.in_err-detachment.ensures))))
+    (step _ (from c.in_ok-attachment.ensures) (local_tail (optional-local Some None _ _ attachment_info-local)) (stop _ (from c.in_err-detachment.ensures))))
 
-pub returns-in_default-a : goal.returns-in_default-a
+pub returns-in_err-address : goal.returns-in_err-address
 unfolding word downlink downlink_address
-returns-in_default-a c =
-    so
+returns-in_err-address c =
+    handed_up _ c.from_residual-in_err-address.ensures.1
     (step _ (from c.in_ok-kind.ensures) (search local·rules)
-    (step _ (from c.in-Ok.ensures) (local_tail (optional-local Some None _ _ attachment_info-local))
-    (step _ (from-option c.in_ok-detachment.ensures) (search local·rules)
-    (stop _ (refused_by c.read_address-a.ensures c.unwrap_err-in_default-a.ensures)))))
+    (step _ (from c.in_ok-attachment.ensures) (local_tail (optional-local Some None _ _ attachment_info-local))
+    (step _ (from-option c.in_ok-detachment.ensures) (search local·rules) (stop _ (from c.in_err-address.ensures)))))
 
 pub returns : goal.returns
 unfolding word downlink downlink_address
 returns c =
     so
     (step _ (from c.in_ok-kind.ensures) (search local·rules)
-    (step _ (from c.in-Ok.ensures) (local_tail (optional-local Some None _ _ attachment_info-local))
+    (step _ (from c.in_ok-attachment.ensures) (local_tail (optional-local Some None _ _ attachment_info-local))
     (step _ (from-option c.in_ok-detachment.ensures) (search local·rules)
-    (step _ (from c.in-Ok-a.ensures) (local_tail downlink_address-local) (ends (sym c.group_of.ensures))))))
+    (step _ (from c.in_ok-address.ensures) (local_tail downlink_address-local) (ends (sym c.group_of.ensures))))))

@@ -55,10 +55,9 @@ overflow_sub-c3 c =
 pub returns-then-c3-c : goal.returns-then-c3-c
 unfolding location_accept
 returns-then-c3-c c =
-    rw c.part_by_part.ensures
-    (answer location_accept_answer
+    answer location_accept_answer
     (structure-whole downlinks_sound group_identity_downlink_identifier _ (local_tail accept_laws.body-local) (list-behind ((goal.at.returns-then-c3-c c).In-Ok-p)) c.args.len
-    (closed ((goal.at.returns-then-c3-c c).In-Ok-v)) c.if-c3-c.true))
+    (closed ((goal.at.returns-then-c3-c c).In-Ok-v)) c.if-c3-c.true)
 
 pub returns : goal.returns
 unfolding location_accept

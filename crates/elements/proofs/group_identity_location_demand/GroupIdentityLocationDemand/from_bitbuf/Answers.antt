@@ -79,10 +79,9 @@ overflow_sub-c3 c =
 pub returns-then-c3-c : goal.returns-then-c3-c
 unfolding location_demand
 returns-then-c3-c c =
-    rw c.part_by_part.ensures
-    (answer location_demand_answer
+    answer location_demand_answer
     (structure-whole uplinks_sound group_identity_uplink_identifier _ (local_tail demand_laws.body-local) (list-behind ((goal.at.returns-then-c3-c c).In-Ok-m)) c.args.len
-    (closed ((goal.at.returns-then-c3-c c).In-Ok-v)) c.if-c3-c.true))
+    (closed ((goal.at.returns-then-c3-c c).In-Ok-v)) c.if-c3-c.true)
 
 pub returns : goal.returns
 unfolding location_demand

@@ -2,7 +2,7 @@
 use Rattle.std.proofs.Common.{sym}
 use Rattle.bits.specs.Reader.{word}
 use Rattle.bits.specs.ReaderLaws.{local·rules, local_tail}
-use Rattle.bits.specs.PlacedLaws.{so, from, refused_by, handed_up, step, stop}
+use Rattle.bits.specs.PlacedLaws.{so, from, handed_up, step, stop}
 use Rattle.elements.specs.Groups.{uplink, uplink_address}
 use Rattle.elements.specs.GroupListLaws.{uplink_address-local}
 use Rattle.elements.proofs.PlacedOptional.{from-option, ends}
@@ -25,13 +25,13 @@ returns-in_err-detachment c =
     (step _ (from c.in_ok-kind.ensures) (search local·rules)
     (step _ (from-option c.in_ok-class_of_usage.ensures) (search local·rules) (stop _ (from c.in_err-detachment.ensures))))
 
-pub returns-in_default : goal.returns-in_default
+pub returns-in_err-address : goal.returns-in_err-address
 unfolding word uplink uplink_address
-returns-in_default c =
-    so
+returns-in_err-address c =
+    handed_up _ c.from_residual-in_err-address.ensures.1
     (step _ (from c.in_ok-kind.ensures) (search local·rules)
     (step _ (from-option c.in_ok-class_of_usage.ensures) (search local·rules)
-    (step _ (from-option c.in_ok-detachment.ensures) (search local·rules) (stop _ (refused_by c.read_address-a.ensures c.unwrap_err.ensures)))))
+    (step _ (from-option c.in_ok-detachment.ensures) (search local·rules) (stop _ (from c.in_err-address.ensures)))))
 
 pub returns : goal.returns
 unfolding word uplink uplink_address
@@ -40,4 +40,4 @@ returns c =
     (step _ (from c.in_ok-kind.ensures) (search local·rules)
     (step _ (from-option c.in_ok-class_of_usage.ensures) (search local·rules)
     (step _ (from-option c.in_ok-detachment.ensures) (search local·rules)
-    (step _ (from c.in-Ok.ensures) (local_tail uplink_address-local) (ends (sym c.group_of.ensures))))))
+    (step _ (from c.in_ok-address.ensures) (local_tail uplink_address-local) (ends (sym c.group_of.ensures))))))

@@ -59,62 +59,50 @@ parts h = record {
   same = same_record h;
 }
 
--- the octets taken anew are those that were lent, and the message's answer is the same
-abbrev anew : List ℕ → List ℕ
-anew os = take (length os - 0) (drop 0 os)
-
-lent : (os : List ℕ) (c : Cursor) (skipping : Bool)
-    → attach_detach_answer (at (message identifier_of content attach_detach_format skipping) (anew os) c)
-    ≡ attach_detach_answer (at (message identifier_of content attach_detach_format skipping) os c)
-lent os c skipping =
-    ap (λ (xs : List ℕ). attach_detach_answer (at (message identifier_of content attach_detach_format skipping) xs c)) (take_all (length os - 0) (drop 0 os) (omega arith))
-
 -- the head
-headed : (c : In-Ok) → Gives attach_detach_head (anew c.args.octets.now) c.args.c (placed c.in-Ok.head c.in-Ok.c1)
+headed : (c : In-Ok) → Gives attach_detach_head c.args.octets.now c.args.c (placed c.in-Ok.head c.in-Ok.c1)
 headed c = from c.in-Ok.ensures
 
 -- behind a head that no empty table follows, the answer is that of the elements
 following : (c : In_default-e) → let a = c.args in
-    attach_detach_answer (at (body identifier_of content attach_detach_format a.skipping c.in-Ok.head true) (anew a.octets.now) c.in-Ok.c1)
+    attach_detach_answer (at (body identifier_of content attach_detach_format a.skipping c.in-Ok.head true) a.octets.now c.in-Ok.c1)
     ≡ attach_detach_answer (at (message identifier_of content attach_detach_format a.skipping) a.octets.now a.c)
 following c =
     answer attach_detach_answer (elements_follow attach_detach_format c.args.skipping (from c.in-Ok.ensures) (local_tail attach_detach_head-local) (from c.in_default-e.ensures) (by refl refl))
-    ∙ lent _ _ _
 
 -- each part, where it is read
-front_read : (c : In-Ok-v) → Gives (part attach_detach_table front false c.args.skipping 0) (anew c.args.octets.now) c.in-Ok.c1 (placed c.scan_part-a.result.value c.in-Ok-v.c3)
+front_read : (c : In-Ok-v) → Gives (part attach_detach_table front false c.args.skipping 0) c.args.octets.now c.in-Ok.c1 (placed c.scan_part-a.result.value c.in-Ok-v.c3)
 front_read c = verdict_to _ c.scan_part-a.ensures c.in-Ok-v.is
 
 -- its own slot: a list's slot is the same in a table and inside a structure
-slot_ensured : (c : After-read_list_slot-d) → c.read_list_slot-d.result ≡ list_answer downlinks (at (downlinks_slot 7) (anew c.args.octets.now) c.in-Ok-v.c3)
+slot_ensured : (c : After-read_list_slot-d) → c.read_list_slot-d.result ≡ list_answer downlinks (at (downlinks_slot 7) c.args.octets.now c.in-Ok-v.c3)
 slot_ensured c = rw (downlinks_slot_lem 7) c.read_list_slot-d.ensures
 
-slot_read : (c : In-Ok-w) → Gives (downlinks_slot 7) (anew c.args.octets.now) c.in-Ok-v.c3 (placed c.read_list_slot-d.result.value c.in-Ok-w.c4)
+slot_read : (c : In-Ok-w) → Gives (downlinks_slot 7) c.args.octets.now c.in-Ok-v.c3 (placed c.read_list_slot-d.result.value c.in-Ok-w.c4)
 slot_read c =
-    let slot : c.read_list_slot-d.result ≡ list_answer downlinks (at (downlinks_slot 7) (anew c.args.octets.now) c.in-Ok-v.c3) = rw (downlinks_slot_lem 7) c.read_list_slot-d.ensures in
+    let slot : c.read_list_slot-d.result ≡ list_answer downlinks (at (downlinks_slot 7) c.args.octets.now c.in-Ok-v.c3) = rw (downlinks_slot_lem 7) c.read_list_slot-d.ensures in
     verdict_to _ slot c.in-Ok-w.is
 
-back_read : (c : In-Ok-x) → Gives (part attach_detach_table back true c.args.skipping 3) (anew c.args.octets.now) c.in-Ok-w.c4 (placed c.scan_part-b.result.value c.in-Ok-x.c6)
+back_read : (c : In-Ok-x) → Gives (part attach_detach_table back true c.args.skipping 3) c.args.octets.now c.in-Ok-w.c4 (placed c.scan_part-b.result.value c.in-Ok-x.c6)
 back_read c = verdict_to _ c.scan_part-b.ensures c.in-Ok-x.is
 
 -- the table, of its parts; and where it ends behind the list
 unfoldable whole : In-Ok-x → Fact
 unfolding downlinks_slot
 whole c =
-    let slot : c.read_list_slot-d.result ≡ list_answer downlinks (at (downlinks_slot 7) (anew c.args.octets.now) c.in-Ok-v.c3) = rw (downlinks_slot_lem 7) c.read_list_slot-d.ensures in
+    let slot : c.read_list_slot-d.result ≡ list_answer downlinks (at (downlinks_slot 7) c.args.octets.now c.in-Ok-v.c3) = rw (downlinks_slot_lem 7) c.read_list_slot-d.ensures in
     fact (all_read _ c.args.skipping (parts c.in-Ok.head) (verdict_to _ c.scan_part-a.ensures c.in-Ok-v.is) (verdict_to _ slot c.in-Ok-w.is) (back_read c))
 
 unfoldable closed : In-Ok-z → Fact
 unfolding downlinks_slot
 closed c =
-    let slot : c.read_list_slot-d.result ≡ list_answer downlinks (at (downlinks_slot 7) (anew c.args.octets.now) c.in-Ok-v.c3) = rw (downlinks_slot_lem 7) c.read_list_slot-d.ensures in
+    let slot : c.read_list_slot-d.result ≡ list_answer downlinks (at (downlinks_slot 7) c.args.octets.now c.in-Ok-v.c3) = rw (downlinks_slot_lem 7) c.read_list_slot-d.ensures in
     fact (all_read _ c.args.skipping (parts c.in-Ok.head) (verdict_to _ c.scan_part-a.ensures c.in-Ok-v.is) (verdict_to _ slot c.in-Ok-w.is)
     (part-ended _ _ _ _ (from c.in-Ok-z.ensures)))
 
 pub returns-in_default : goal.returns-in_default
 returns-in_default c =
     c.unread.ensures ∙ answer attach_detach_answer (no_head attach_detach_format c.args.skipping (refused_by c.read_head-h.ensures c.unwrap_err.ensures))
-    ∙ lent _ _ _
 
 pub returns-in_default-v : goal.returns-in_default-v
 returns-in_default-v c =
@@ -154,4 +142,4 @@ returns-in_default-e c =
 
 pub returns : goal.returns
 returns c =
-    rw (c.record_of-2.ensures, c.no_list.ensures) (answer attach_detach_answer (none_follow attach_detach_format c.args.skipping (headed ((goal.at.returns c).In-Ok)) (local_tail attach_detach_head-local) (from c.in-Ok-e.ensures)) ∙ lent _ _ _)
+    rw (c.record_of-2.ensures, c.no_list.ensures) (answer attach_detach_answer (none_follow attach_detach_format c.args.skipping (headed ((goal.at.returns c).In-Ok)) (local_tail attach_detach_head-local) (from c.in-Ok-e.ensures)))
