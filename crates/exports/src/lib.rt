@@ -90,7 +90,7 @@ fn rewrite<M: PduWriter>(octets: &[u8], c: Cursor, out: &mut [u8], to: Cursor) -
     if is_good_call(octets.len(), c.at, c.end, M::TYPE, STRICT) {
         let a = M::from_bitbuf(c, octets, false);
         a.verdict?;
-        let w = write_as(out, to.at, to.end, a.record);
+        let w = write_as(out, to, a.record);
         w.verdict?;
         return Ok(64 * w.written as u64);
     }

@@ -51,14 +51,13 @@ pub extern "C" fn measure_write(
 
 // A message read: 64 times the bits consumed plus the refusal's number. The record is made and left behind: each message's reader
 // has a second caller, `measure_record`, and so is a function of its own in the machine code.
-fn measured<M: Pdu>(octets: &[u8], first: usize, end: usize, wanted: u64) -> u64
-    ensures { result ≡ consumed_and_refusal (reading M.TYPE wanted octets.now first end) }
+fn measured<M: Pdu>(octets: &[u8], c: Cursor, wanted: u64) -> u64
+    ensures { result ≡ consumed_and_refusal (reading M.TYPE wanted octets.now c.at c.end) }
 {
-    if is_good_call(octets.len(), first, end, M::TYPE, wanted) {
-        let c = Cursor { at: first, end };
+    if is_good_call(octets.len(), c.at, c.end, M::TYPE, wanted) {
         let a = M::from_bitbuf(c, octets, wanted == SKIPPING);
         return match a.verdict {
-            Ok((_, c1)) => 64 * (c1.at - first) as u64,
+            Ok((_, c1)) => 64 * (c1.at - c.at) as u64,
             Err(e) => e.number() as u64,
         };
     }
@@ -69,14 +68,14 @@ fn measured<M: Pdu>(octets: &[u8], first: usize, end: usize, wanted: u64) -> u64
 pub extern "C" fn measure_read_demand(octets: &[u8], first: usize, end: usize, wanted: u64) -> u64
     ensures { result ≡ consumed_and_refusal (reading u_location_update_demand_type wanted octets.now first end) }
 {
-    measured::<ULocationUpdateDemand>(octets, first, end, wanted)
+    measured::<ULocationUpdateDemand>(octets, Cursor { at: first, end }, wanted)
 }
 
 #[unsafe(no_mangle)]
 pub extern "C" fn measure_read_accept(octets: &[u8], first: usize, end: usize, wanted: u64) -> u64
     ensures { result ≡ consumed_and_refusal (reading d_location_update_accept_type wanted octets.now first end) }
 {
-    measured::<DLocationUpdateAccept>(octets, first, end, wanted)
+    measured::<DLocationUpdateAccept>(octets, Cursor { at: first, end }, wanted)
 }
 
 #[unsafe(no_mangle)]
@@ -88,7 +87,7 @@ pub extern "C" fn measure_read_attach_detach(
 ) -> u64
     ensures { result ≡ consumed_and_refusal (reading d_attach_detach_group_identity_type wanted octets.now first end) }
 {
-    measured::<DAttachDetachGroupIdentity>(octets, first, end, wanted)
+    measured::<DAttachDetachGroupIdentity>(octets, Cursor { at: first, end }, wanted)
 }
 
 // The record of a message read, from which the messages below are written.
@@ -106,11 +105,11 @@ pub extern "C" fn measure_record(
 }
 
 // A message written: the number of bits, 0 with a refusal.
-fn written<M: PduWriter>(d: M, octets: &mut [u8], first: usize, end: usize) -> u64
-    ensures bits { result ≡ (writing M.TYPE octets.old first end (M.of d)).written }
-    ensures octets { octets.new ≡ octets_written M.TYPE octets.old first end (M.of d) }
+fn written<M: PduWriter>(d: M, octets: &mut [u8], c: Cursor) -> u64
+    ensures bits { result ≡ (writing M.TYPE octets.old c.at c.end (M.of d)).written }
+    ensures octets { octets.new ≡ octets_written M.TYPE octets.old c.at c.end (M.of d) }
 {
-    write_as(octets, first, end, d).written as u64
+    write_as(octets, c, d).written as u64
 }
 
 #[unsafe(no_mangle)]
@@ -123,7 +122,7 @@ pub extern "C" fn measure_write_demand(
     ensures bits { result ≡ (writing u_location_update_demand_type octets.old first end (of_demand d)).written }
     ensures octets { octets.new ≡ octets_written u_location_update_demand_type octets.old first end (of_demand d) }
 {
-    written(d, octets, first, end)
+    written(d, octets, Cursor { at: first, end })
 }
 
 #[unsafe(no_mangle)]
@@ -136,7 +135,7 @@ pub extern "C" fn measure_write_accept(
     ensures bits { result ≡ (writing d_location_update_accept_type octets.old first end (of_accept d)).written }
     ensures octets { octets.new ≡ octets_written d_location_update_accept_type octets.old first end (of_accept d) }
 {
-    written(d, octets, first, end)
+    written(d, octets, Cursor { at: first, end })
 }
 
 #[unsafe(no_mangle)]
@@ -149,17 +148,17 @@ pub extern "C" fn measure_write_attach_detach(
     ensures bits { result ≡ (writing d_attach_detach_group_identity_type octets.old first end (of_attach_detach d)).written }
     ensures octets { octets.new ≡ octets_written d_attach_detach_group_identity_type octets.old first end (of_attach_detach d) }
 {
-    written(d, octets, first, end)
+    written(d, octets, Cursor { at: first, end })
 }
 
 // A message written `times` times, each time by a writing call: the number of bits that the last one wrote.
-fn writes<M: PduWriter>(d: M, octets: &mut [u8], first: usize, end: usize, times: usize) -> u64
-    ensures bits { result ≡ (repeated M.TYPE first end (M.of d) times octets.old).bits }
-    ensures octets { octets.new ≡ (repeated M.TYPE first end (M.of d) times octets.old).octets }
+fn writes<M: PduWriter>(d: M, octets: &mut [u8], c: Cursor, times: usize) -> u64
+    ensures bits { result ≡ (repeated M.TYPE c.at c.end (M.of d) times octets.old).bits }
+    ensures octets { octets.new ≡ (repeated M.TYPE c.at c.end (M.of d) times octets.old).octets }
 {
     let mut bits: u64 = 0;
     for _ in 0..times {
-        let w = write_as(octets, first, end, d);
+        let w = write_as(octets, c, d);
         bits = w.written as u64;
     }
     bits
@@ -176,7 +175,7 @@ pub extern "C" fn measure_writes_demand(
     ensures bits { result ≡ (repeated u_location_update_demand_type first end (of_demand d) times octets.old).bits }
     ensures octets { octets.new ≡ (repeated u_location_update_demand_type first end (of_demand d) times octets.old).octets }
 {
-    writes(d, octets, first, end, times)
+    writes(d, octets, Cursor { at: first, end }, times)
 }
 
 #[unsafe(no_mangle)]
@@ -190,7 +189,7 @@ pub extern "C" fn measure_writes_accept(
     ensures bits { result ≡ (repeated d_location_update_accept_type first end (of_accept d) times octets.old).bits }
     ensures octets { octets.new ≡ (repeated d_location_update_accept_type first end (of_accept d) times octets.old).octets }
 {
-    writes(d, octets, first, end, times)
+    writes(d, octets, Cursor { at: first, end }, times)
 }
 
 #[unsafe(no_mangle)]
@@ -204,5 +203,5 @@ pub extern "C" fn measure_writes_attach_detach(
     ensures bits { result ≡ (repeated d_attach_detach_group_identity_type first end (of_attach_detach d) times octets.old).bits }
     ensures octets { octets.new ≡ (repeated d_attach_detach_group_identity_type first end (of_attach_detach d) times octets.old).octets }
 {
-    writes(d, octets, first, end, times)
+    writes(d, octets, Cursor { at: first, end }, times)
 }

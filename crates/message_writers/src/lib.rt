@@ -53,17 +53,13 @@ fn refused() -> Writing
     }
 }
 
-// A writing call of a message's own record.
-pub fn write_as<M: PduWriter>(octets: &mut [u8], first: usize, end: usize, d: M) -> Writing
-    ensures answer { result ≡ writing M.TYPE octets.old first end (M.of d) }
-    ensures octets { octets.new ≡ octets_written M.TYPE octets.old first end (M.of d) }
+// A writing call of a message's own record; `c` is the window.
+pub fn write_as<M: PduWriter>(octets: &mut [u8], c: Cursor, d: M) -> Writing
+    ensures answer { result ≡ writing M.TYPE octets.old c.at c.end (M.of d) }
+    ensures octets { octets.new ≡ octets_written M.TYPE octets.old c.at c.end (M.of d) }
 {
-    if is_good_call(octets.len(), first, end, M::TYPE, STRICT) {
-        let c = Cursor {
-            at: first,
-            end: end,
-        };
-        return answered(first, d.to_bitbuf(c, octets));
+    if is_good_call(octets.len(), c.at, c.end, M::TYPE, STRICT) {
+        return answered(c.at, d.to_bitbuf(c, octets));
     }
     refused()
 }
@@ -74,14 +70,15 @@ pub fn write(octets: &mut [u8], first: usize, end: usize, message: u64, held: Re
     ensures answer { result ≡ writing message octets.old first end held }
     ensures octets { octets.new ≡ octets_written message octets.old first end held }
 {
+    let c = Cursor { at: first, end };
     if message == DEMAND {
-        return write_as(octets, first, end, held.demand);
+        return write_as(octets, c, held.demand);
     }
     if message == ACCEPT {
-        return write_as(octets, first, end, held.accept);
+        return write_as(octets, c, held.accept);
     }
     if message == ATTACH_DETACH {
-        return write_as(octets, first, end, held.attach_detach);
+        return write_as(octets, c, held.attach_detach);
     }
     refused()
 }

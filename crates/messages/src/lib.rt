@@ -171,19 +171,15 @@ fn answered(first: usize, skipped: usize, c: Cursor, held: Record) -> Reading
 }
 
 // A reading call that passed question 1.
-fn read_as<M: Pdu>(octets: &[u8], first: usize, end: usize, skipping: bool) -> Reading
-    ensures { result ≡ called (message_of M.TYPE) skipping octets.now first end }
+fn read_as<M: Pdu>(octets: &[u8], c: Cursor, skipping: bool) -> Reading
+    ensures { result ≡ called (message_of M.TYPE) skipping octets.now c.at c.end }
 {
-    let c = Cursor {
-        at: first,
-        end: end,
-    };
     let a = M::from_bitbuf(c, octets, skipping);
     let v = a.verdict;
     let Ok((n, c1)) = v else {
-        return refused(v.unwrap_err(), first);
+        return refused(v.unwrap_err(), c.at);
     };
-    answered(first, n, c1, a.record.alone())
+    answered(c.at, n, c1, a.record.alone())
 }
 
 // A reading call: the octets lent, the window's first and end bit, the message's type number, the reading wanted.
@@ -191,14 +187,15 @@ pub fn read(octets: &[u8], first: usize, end: usize, message: u64, wanted: u64) 
     ensures { result ≡ reading message wanted octets.now first end }
 {
     if is_good_call(octets.len(), first, end, message, wanted) {
+        let c = Cursor { at: first, end };
         let skipping = wanted == SKIPPING;
         if message == DEMAND {
-            return read_as::<ULocationUpdateDemand>(octets, first, end, skipping);
+            return read_as::<ULocationUpdateDemand>(octets, c, skipping);
         }
         if message == ACCEPT {
-            return read_as::<DLocationUpdateAccept>(octets, first, end, skipping);
+            return read_as::<DLocationUpdateAccept>(octets, c, skipping);
         }
-        return read_as::<DAttachDetachGroupIdentity>(octets, first, end, skipping);
+        return read_as::<DAttachDetachGroupIdentity>(octets, c, skipping);
     }
     refused(PduParseErr::BadCall, first)
 }

@@ -6,16 +6,16 @@ use Rattle.message_writers.proofs.write_as.Goals as goal
 pub answered-requires : goal.answered-requires
 answered-requires g c =
     let a = c.args in
-    (good_write g.M.Pdu.TYPE a.octets.now a.first a.end (g.M.OwnRecord.of a.d) (rw c.TYPE.ensures at (sym c.is_good_call.ensures ∙ c.if-is_good_call.true)) c.to_bitbuf.ensures).behind
+    (good_write g.M.Pdu.TYPE a.octets.now a.c.at a.c.end (g.M.OwnRecord.of a.d) (rw c.TYPE.ensures at (sym c.is_good_call.ensures ∙ c.if-is_good_call.true)) c.to_bitbuf.ensures).behind
 
 pub returns-then-is_good_call : goal.returns-then-is_good_call
 returns-then-is_good_call g c =
     let a = c.args in
-    let w = good_write g.M.Pdu.TYPE a.octets.now a.first a.end (g.M.OwnRecord.of a.d) (rw c.TYPE.ensures at (sym c.is_good_call.ensures ∙ c.if-is_good_call.true)) c.to_bitbuf.ensures in
+    let w = good_write g.M.Pdu.TYPE a.octets.now a.c.at a.c.end (g.M.OwnRecord.of a.d) (rw c.TYPE.ensures at (sym c.is_good_call.ensures ∙ c.if-is_good_call.true)) c.to_bitbuf.ensures in
     record { answer = c.answered.ensures ∙ w.answer; octets = w.octets }
 
 pub returns : goal.returns
 returns g c =
     let a = c.args in
-    let w = bad_write g.M.Pdu.TYPE a.octets.now a.first a.end (g.M.OwnRecord.of a.d) (rw c.TYPE.ensures at (sym c.is_good_call.ensures ∙ c.if-is_good_call.false)) in
+    let w = bad_write g.M.Pdu.TYPE a.octets.now a.c.at a.c.end (g.M.OwnRecord.of a.d) (rw c.TYPE.ensures at (sym c.is_good_call.ensures ∙ c.if-is_good_call.false)) in
     record { answer = c.refused.ensures ∙ w.0; octets = w.1 }
