@@ -11,7 +11,7 @@ use Rattle.bits.proofs.bitbuffer.gather.Goals as goal
 pub returns-then-stop-le8 : goal.returns-then-stop-le8
 returns-then-stop-le8 c =
     let a = c.args in
-    rw (c.low-value.ensures, c.wide.ensures) (field-first a.part.now a.skip a.width (omega arith) (omega arith))
+    rw c.low-value.ensures (field-first a.part.now a.skip a.width (omega arith) (omega arith))
 
 pub loop-i-init : goal.loop-i-init
 loop-i-init c =
@@ -21,7 +21,7 @@ loop-i-init c =
     let e : 0 ≡ 8 - (a.skip + n) = omega arith in (
       omega arith,
       omega arith,
-      rw (c.low-value.ensures, c.wide.ensures)
+      rw c.low-value.ensures
           (sym (div-one v) ∙ ap (λ (t : ℕ). v / 2 ^ t) e ∙ field-first a.part.now a.skip n (omega arith) (omega arith)),
     )
 
@@ -33,7 +33,7 @@ loop-i-preserved c =
     let e : d + 8 ≡ 8 * (l.i + 1) - a.skip = omega arith in (
       omega arith,
       omega arith,
-      rw (c.wide-in-loop-i.ensures, ← div-one (get_or a.part.now l.i 0))
+      rw (← div-one (get_or a.part.now l.i 0))
           (field-more a.part.now a.skip l.i d 8 0 l.value
           (omega arith) refl (omega arith) (omega arith) (c.shared_slice_known-in-loop-i-1.given l.i).fits l.invariant.2
           ∙ ap (field_at a.part.now a.skip) e),
@@ -55,7 +55,6 @@ returns c =
     let n : ℕ = (a.skip + a.width) % 8 in
     let e : d + n ≡ a.width = omega arith in
     let at_end : l.i ≡ whole = omega arith in
-    rw c.wide-2.ensures
-    (field-more a.part.now a.skip whole d n (8 - n) l.value
+    field-more a.part.now a.skip whole d n (8 - n) l.value
     (omega arith) (omega arith) (omega arith) (omega arith) (c.shared_slice_known-3-1.given whole).fits (rw at_end at l.invariant.2)
-    ∙ ap (field_at a.part.now a.skip) e)
+    ∙ ap (field_at a.part.now a.skip) e

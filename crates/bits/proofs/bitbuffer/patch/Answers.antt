@@ -8,7 +8,7 @@ pub returns : goal.returns
 returns c =
     let a = c.args in
     let t : ℕ = 8 - a.skip - a.n in
-    rw (c.low.ensures, c.wide-o.ensures)
+    rw c.low.ensures
     (patch_shifts a.octet a.skip a.n t a.chunk (omega arith) c.ranges.octet.fits c.requires.1)
 
 pub overflow_cast-result : goal.overflow_cast-result

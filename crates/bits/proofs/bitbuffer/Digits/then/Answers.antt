@@ -19,8 +19,5 @@ returns-then-self-width c =
           (sym (digits_two d a.width a.value (omega arith))));
     }
 
-pub returns-else-self-width : goal.returns-else-self-width
-returns-else-self-width c = let a = c.args in record { is = sym (digits_two_many a.self a.width a.value (omega arith)) }
-
-pub returns-else-width-le64 : goal.returns-else-width-le64
-returns-else-width-le64 c = let a = c.args in record { is = sym (digits_two_many a.self a.width a.value (omega arith)) }
+pub returns : goal.returns
+returns c = let a = c.args in record { is = sym (digits_two_many a.self a.width a.value (grind arith)) }
