@@ -1,6 +1,6 @@
 -- What a line asks for: message, reading, octets in hexadecimal, and if wanted the window's first and end bit.
 use Rattle.std.specs.Prelude.{ℕ, ◌*◌, ◌%◌, Bool, true, cond, List, [], ◌∷◌, length, ◌==◌, Option, None, Some, Result, Ok, Err, codes}
-use Rattle.std.specs.Char.{is_ascii_digit, is_ascii_hexdigit}
+use Rattle.std.specs.Char.{is_digit}
 use Rattle.std.specs.List.{list_all}
 use Rattle.std.specs.Option.{ok_or}
 use Rattle.std.specs.Str.{bytes_eq}
@@ -11,7 +11,7 @@ use Rattle.mm_read.specs.declared.call.Fault.TheVariants.{WordsMissing, EndMissi
 
 -- a decimal number; a word with another character is the fault `bad`
 abbrev pub number_of : Fault → List ℕ → Result ℕ Fault
-number_of bad xs = cond (list_all is_ascii_digit xs) (ok_or (decimal_of xs) NumberTooLarge) (Err bad)
+number_of bad xs = cond (list_all (λ x. is_digit x 10) xs) (ok_or (decimal_of xs) NumberTooLarge) (Err bad)
 
 -- a message's type number: a name, or the number itself
 abbrev pub message_of : List ℕ → Result ℕ Fault
@@ -26,7 +26,7 @@ reading_of w = cond (bytes_eq w (codes "strict")) (Ok 0) (cond (bytes_eq w (code
 -- how many bits the octets have that hexadecimal digits write: 4 for each digit
 abbrev pub bits_of : List ℕ → Result ℕ Fault
 bits_of hex =
-    cond (list_all is_ascii_hexdigit hex) (cond (length hex % 2 == 0) (Ok (4 * length hex)) (Err DigitsOdd)) (Err DigitsBad)
+    cond (list_all (λ x. is_digit x 16) hex) (cond (length hex % 2 == 0) (Ok (4 * length hex)) (Err DigitsOdd)) (Err DigitsBad)
 
 -- a bit of the window, which has a value where no word names it
 abbrev pub bit_of : List ℕ → ℕ → Result ℕ Fault

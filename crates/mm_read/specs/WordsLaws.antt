@@ -102,8 +102,6 @@ pub word_of : (s rest : List ℕ) (o : Option ℕ) (n : ℕ) → rest ≡ unblan
 unfolding first_word
 word_of s rest o n p e q = rw (q, e, place_or_len is_blank rest, p) refl
 
-pub behind_word : (s rest : List ℕ) (o : Option ℕ) (n : ℕ) → rest ≡ unblanked s → o ≡ position is_blank rest → n ≡ unwrap_or o (length rest) → take (length rest - n) (drop n rest) ≡ after_word s
+pub behind_word : (s rest : List ℕ) (o : Option ℕ) (n : ℕ) → rest ≡ unblanked s → o ≡ position is_blank rest → n ≡ unwrap_or o (length rest) → drop n rest ≡ after_word s
 unfolding after_word
-behind_word s rest o n p e q =
-    let h : length (drop n rest) ≤ length rest - n = rw length-drop (omega arith) in
-    take_all _ _ h ∙ rw (q, e, place_or_len is_blank rest, p) refl
+behind_word s rest o n p e q = rw (q, e, place_or_len is_blank rest, p) refl

@@ -1,6 +1,6 @@
 // What a line asks for.
-ghost use Rattle.std.specs.Prelude.{◌≡◌};
-ghost use Rattle.std.specs.Char.{is_ascii_digit, is_ascii_hexdigit};
+ghost use Rattle.std.specs.Prelude.{◌≡◌, ◌≤◌};
+ghost use Rattle.std.specs.Char.{is_digit};
 ghost use Rattle.std.specs.List.{list_all};
 ghost use Rattle.mm_read.specs.Asking.{number_of, message_of, reading_of, bits_of, bit_of, shape_of, octets_word, window_of, call_of, asked_of};
 
@@ -67,23 +67,20 @@ impl fmt::Display for Call {
     }
 }
 
-fn are_decimal(characters: &[u8]) -> bool
-    ensures { result ≡ list_all is_ascii_digit characters.now }
+// Whether all characters are digits of a base.
+fn are_digits(characters: &[u8], base: u32) -> bool
+    requires from_two { 2 ≤ base }
+    requires to_36 { base ≤ 36 }
+    ensures { result ≡ list_all (λ x. is_digit x base) characters.now }
 {
-    characters.iter().all(|c| c.is_ascii_digit())
-}
-
-fn are_hexadecimal(characters: &[u8]) -> bool
-    ensures { result ≡ list_all is_ascii_hexdigit characters.now }
-{
-    characters.iter().all(|c| c.is_ascii_hexdigit())
+    characters.iter().all(|c| char::from(*c).is_digit(base))
 }
 
 // A decimal number; `bad` is what a word of other characters is.
 fn number_of(word: &[u8], bad: Fault) -> Result<u64, Fault>
     ensures { result ≡ number_of bad word.now }
 {
-    if !are_decimal(word) {
+    if !are_digits(word, 10) {
         return Err(bad);
     }
     decimal_of(word).ok_or(Fault::NumberTooLarge)
@@ -121,7 +118,7 @@ fn bits_of(hex: &Text) -> Result<u64, Fault>
     ensures { result ≡ bits_of hex.now }
 {
     let digits = hex.characters;
-    if !are_hexadecimal(digits) {
+    if !are_digits(digits, 16) {
         return Err(Fault::DigitsBad);
     }
     if digits.len() % 2 != 0 {

@@ -6,11 +6,12 @@ use crate::call::{Call, Fault};
 use bits::pdu_parse_error::PduParseErr;
 use elements::class_of_ms::OptionalClassOfMs;
 use elements::energy_saving_information::OptionalEnergySavingInformation;
-use elements::group_identity_downlink::{GroupIdentityDownlink, OptionalDownlinks};
+use elements::group_address::GroupAddress;
+use elements::group_identity_downlink::GroupIdentityDownlink;
 use elements::group_identity_location_accept::OptionalLocationAccept;
 use elements::group_identity_location_demand::OptionalLocationDemand;
-use elements::group_identity_uplink::{GroupIdentityUplink, OptionalUplinks};
-use elements::typed_pdu_fields::{OptionalType3, OptionalType4};
+use elements::group_identity_uplink::GroupIdentityUplink;
+use elements::typed_pdu_fields::{OptionalType3, OptionalType4, OptionalU8};
 use messages::d_attach_detach_group_identity::DAttachDetachGroupIdentity;
 use messages::d_location_update_accept::DLocationUpdateAccept;
 use messages::u_location_update_demand::ULocationUpdateDemand;
@@ -28,16 +29,21 @@ fn field(
     println!(rt; "{:indent$}{name}: {value}", "")
 }
 
+// A line of a number that may be absent.
 fn field_if(
     rt: &impl Print,
     level: u8,
     name: &str,
-    value: Option<impl fmt::Display + Drop>,
+    value: impl Into<Option<u64>>,
 ) -> io::Result<()> {
-    if let Some(v) = value {
-        field(rt, level, name, v)?;
+    if let Some(n) = value.into() {
+        field(rt, level, name, n)?;
     }
     Ok(())
+}
+
+fn octet(n: OptionalU8) -> Option<u64> {
+    Option::<u8>::from(n).map(u64::from)
 }
 
 // The data of an element of so many bits, of which a record holds 64.
@@ -76,38 +82,36 @@ fn type4(rt: &impl Print, name: &str, o: OptionalType4) -> io::Result<()> {
     Ok(())
 }
 
+// The fields of a class of MS, in order.
+const CLASS_OF_MS: [&str; 22] = [
+    "frequency simplex/duplex",
+    "multislot phase modulation",
+    "concurrent multicarrier",
+    "voice",
+    "end-to-end encryption not supported",
+    "circuit mode data",
+    "TETRA packet data",
+    "fast switching",
+    "DCK encryption",
+    "CLCH needed",
+    "concurrent circuit mode",
+    "original advanced link",
+    "minimum mode",
+    "carrier specific signalling",
+    "authentication",
+    "SCK encryption",
+    "air interface version",
+    "common SCCH",
+    "reserved 21",
+    "MAC-D-BLCK",
+    "extended advanced link",
+    "D8PSK",
+];
+
 fn class_of_ms(rt: &impl Print, o: OptionalClassOfMs) -> io::Result<()> {
     if o.present {
-        let k = o.value;
-        let fields = [
-            ("frequency simplex/duplex", k.freq_simplex_duplex),
-            ("multislot phase modulation", k.multislot_phase_mod),
-            ("concurrent multicarrier", k.concurrent_multicarrier),
-            ("voice", k.voice),
-            (
-                "end-to-end encryption not supported",
-                k.e2e_encryption_not_supported,
-            ),
-            ("circuit mode data", k.circuit_mode_data),
-            ("TETRA packet data", k.tetra_packet_data),
-            ("fast switching", k.fast_switching),
-            ("DCK encryption", k.dck_encryption),
-            ("CLCH needed", k.clch_needed),
-            ("concurrent circuit mode", k.concurrent_circuit_mode),
-            ("original advanced link", k.original_advanced_link),
-            ("minimum mode", k.minimum_mode),
-            ("carrier specific signalling", k.carrier_specific_signalling),
-            ("authentication", k.authentication),
-            ("SCK encryption", k.sck_encryption),
-            ("air interface version", k.air_interface_version),
-            ("common SCCH", k.common_scch),
-            ("reserved 21", k.reserved_21),
-            ("MAC-D-BLCK", k.mac_d_blck),
-            ("extended advanced link", k.extended_advanced_link),
-            ("D8PSK", k.d8psk),
-        ];
         field(rt, 1, "class of MS", "present")?;
-        for (name, value) in fields {
+        for (name, value) in CLASS_OF_MS.iter().zip(o.value.fields()) {
             field(rt, 2, name, value)?;
         }
     }
@@ -117,140 +121,103 @@ fn class_of_ms(rt: &impl Print, o: OptionalClassOfMs) -> io::Result<()> {
 fn energy_saving(rt: &impl Print, o: OptionalEnergySavingInformation) -> io::Result<()> {
     if o.present {
         let e = o.value;
-        let frame = e.frame_number;
-        let multiframe = e.multiframe_number;
         field(rt, 1, "energy saving information", "present")?;
         field(rt, 2, "energy saving mode", e.energy_saving_mode)?;
-        field_if(rt, 2, "frame number", frame.present.then_some(frame.value))?;
-        field_if(
-            rt,
-            2,
-            "multiframe number",
-            multiframe.present.then_some(multiframe.value),
-        )?;
+        field_if(rt, 2, "frame number", octet(e.frame_number))?;
+        field_if(rt, 2, "multiframe number", octet(e.multiframe_number))?;
     }
     Ok(())
 }
 
-fn address(
-    rt: &impl Print,
-    level: u8,
-    gssi: Option<u32>,
-    extension: Option<u32>,
-    vgssi: Option<u32>,
-) -> io::Result<()> {
-    field_if(rt, level, "GSSI", gssi)?;
-    field_if(rt, level, "address extension", extension)?;
-    field_if(rt, level, "VGSSI", vgssi)
+// What a group of either direction holds.
+#[derive(Clone, Copy)]
+struct Group {
+    lifetime: Option<u8>,
+    usage: Option<u16>,
+    detachment: Option<u8>,
+    address: GroupAddress,
 }
 
-// A group of a list.
-trait Group {
-    fn is_attached(&self) -> bool;
-
-    fn fields(&self, rt: &impl Print, level: u8) -> io::Result<()>;
-}
-
-impl Group for GroupIdentityUplink {
-    fn is_attached(&self) -> bool {
-        self.class_of_usage_present
-    }
-
-    fn fields(&self, rt: &impl Print, level: u8) -> io::Result<()> {
-        field_if(
-            rt,
-            level,
-            "class of usage",
-            self.class_of_usage_present.then_some(self.class_of_usage),
-        )?;
-        field_if(
-            rt,
-            level,
-            "group identity detachment uplink",
-            self.group_identity_detachment_uplink_present
-                .then_some(self.group_identity_detachment_uplink),
-        )?;
-        address(
-            rt,
-            level,
-            self.gssi_present.then_some(self.gssi),
-            self.address_extension_present
-                .then_some(self.address_extension),
-            self.vgssi_present.then_some(self.vgssi),
-        )
-    }
-}
-
-impl Group for GroupIdentityDownlink {
-    fn is_attached(&self) -> bool {
-        self.group_identity_attachment_present
-    }
-
-    fn fields(&self, rt: &impl Print, level: u8) -> io::Result<()> {
-        if self.group_identity_attachment_present {
-            let a = self.group_identity_attachment;
-            field(
-                rt,
-                level,
-                "group identity attachment lifetime",
-                a.group_identity_attachment_lifetime,
-            )?;
-            field(rt, level, "class of usage", a.class_of_usage)?;
+impl From<GroupIdentityUplink> for Group {
+    fn from(g: GroupIdentityUplink) -> Group {
+        Group {
+            lifetime: None,
+            usage: g.class_of_usage_present.then_some(g.class_of_usage),
+            detachment: g
+                .group_identity_detachment_uplink_present
+                .then_some(g.group_identity_detachment_uplink),
+            address: g.address(),
         }
-        field_if(
-            rt,
-            level,
-            "group identity detachment uplink",
-            self.group_identity_detachment_uplink_present
-                .then_some(self.group_identity_detachment_uplink),
-        )?;
-        address(
-            rt,
-            level,
-            self.gssi_present.then_some(self.gssi),
-            self.address_extension_present
-                .then_some(self.address_extension),
-            self.vgssi_present.then_some(self.vgssi),
-        )
     }
 }
 
-// The first `count` groups of a list, which the C interface keeps whole.
-fn groups<G: Group>(
+impl From<GroupIdentityDownlink> for Group {
+    fn from(g: GroupIdentityDownlink) -> Group {
+        let attachment = g
+            .group_identity_attachment_present
+            .then_some(g.group_identity_attachment);
+        Group {
+            lifetime: attachment.map(|a| a.group_identity_attachment_lifetime),
+            usage: attachment.map(|a| u16::from(a.class_of_usage)),
+            detachment: g
+                .group_identity_detachment_uplink_present
+                .then_some(g.group_identity_detachment_uplink),
+            address: g.address(),
+        }
+    }
+}
+
+fn one_group(rt: &impl Print, level: u8, number: usize, g: Group) -> io::Result<()>
+    requires { level ≤ 4 }
+{
+    let change = if g.usage.is_some() {
+        "attachment"
+    } else {
+        "detachment"
+    };
+    field(rt, level, format_args!("group {number}"), change)?;
+    let inner = level + 1;
+    field_if(
+        rt,
+        inner,
+        "group identity attachment lifetime",
+        g.lifetime.map(u64::from),
+    )?;
+    field_if(rt, inner, "class of usage", g.usage.map(u64::from))?;
+    field_if(
+        rt,
+        inner,
+        "group identity detachment uplink",
+        g.detachment.map(u64::from),
+    )?;
+    let a = g.address;
+    field_if(rt, inner, "GSSI", a.gssi.map(u64::from))?;
+    field_if(
+        rt,
+        inner,
+        "address extension",
+        a.address_extension.map(u64::from),
+    )?;
+    field_if(rt, inner, "VGSSI", a.vgssi.map(u64::from))
+}
+
+// A list of groups, which the C interface keeps whole: the first `count` are there.
+fn groups<G: Copy + Into<Group>>(
     rt: &impl Print,
     level: u8,
     name: &str,
+    present: bool,
     count: usize,
     list: &[G],
 ) -> io::Result<()>
     requires { level ≤ 2 }
 {
-    field(rt, level, name, "present")?;
-    field(rt, level + 1, "groups", count)?;
-    for (i, g) in list.iter().take(count).enumerate() {
-        let change = if g.is_attached() {
-            "attachment"
-        } else {
-            "detachment"
-        };
-        field(rt, level + 1, format_args!("group {}", i + 1), change)?;
-        g.fields(rt, level + 2)?;
-    }
-    Ok(())
-}
-
-fn uplinks(rt: &impl Print, o: OptionalUplinks) -> io::Result<()> {
-    if o.present {
-        groups(rt, 2, "group identity uplink", o.count, &o.groups)?;
-    }
-    Ok(())
-}
-
-fn downlinks(rt: &impl Print, level: u8, o: OptionalDownlinks) -> io::Result<()>
-    requires { level ≤ 2 }
-{
-    if o.present {
-        groups(rt, level, "group identity downlink", o.count, &o.groups)?;
+    if present {
+        field(rt, level, name, "present")?;
+        field(rt, level + 1, "groups", count)?;
+        for (i, g) in list.iter().take(count).enumerate() {
+            one_group(rt, level + 1, i + 1, (*g).into())?;
+        }
     }
     Ok(())
 }
@@ -265,7 +232,15 @@ fn location_demand(rt: &impl Print, o: OptionalLocationDemand) -> io::Result<()>
             "group identity attach/detach mode",
             v.group_identity_attach_detach_mode,
         )?;
-        uplinks(rt, v.group_identity_uplink)?;
+        let l = v.group_identity_uplink;
+        groups(
+            rt,
+            2,
+            "group identity uplink",
+            l.present,
+            l.count,
+            &l.groups,
+        )?;
     }
     Ok(())
 }
@@ -280,7 +255,15 @@ fn location_accept(rt: &impl Print, o: OptionalLocationAccept) -> io::Result<()>
             "group identity accept/reject",
             v.group_identity_accept_reject,
         )?;
-        downlinks(rt, 2, v.group_identity_downlink)?;
+        let l = v.group_identity_downlink;
+        groups(
+            rt,
+            2,
+            "group identity downlink",
+            l.present,
+            l.count,
+            &l.groups,
+        )?;
     }
     Ok(())
 }
@@ -289,38 +272,12 @@ fn demand(rt: &impl Print, d: ULocationUpdateDemand) -> io::Result<()> {
     field(rt, 1, "location update type", d.location_update_type)?;
     field(rt, 1, "request to append LA", d.request_to_append_la)?;
     field(rt, 1, "cipher control", d.cipher_control)?;
-    field_if(
-        rt,
-        1,
-        "ciphering parameters",
-        d.ciphering_parameters
-            .present
-            .then_some(d.ciphering_parameters.value),
-    )?;
+    field_if(rt, 1, "ciphering parameters", d.ciphering_parameters)?;
     class_of_ms(rt, d.class_of_ms)?;
-    field_if(
-        rt,
-        1,
-        "energy saving mode",
-        d.energy_saving_mode
-            .present
-            .then_some(d.energy_saving_mode.value),
-    )?;
-    field_if(
-        rt,
-        1,
-        "LA information",
-        d.la_information.present.then_some(d.la_information.value),
-    )?;
-    field_if(rt, 1, "SSI", d.ssi.present.then_some(d.ssi.value))?;
-    field_if(
-        rt,
-        1,
-        "address extension",
-        d.address_extension
-            .present
-            .then_some(d.address_extension.value),
-    )?;
+    field_if(rt, 1, "energy saving mode", octet(d.energy_saving_mode))?;
+    field_if(rt, 1, "LA information", d.la_information)?;
+    field_if(rt, 1, "SSI", d.ssi)?;
+    field_if(rt, 1, "address extension", d.address_extension)?;
     location_demand(rt, d.group_identity_location_demand)?;
     type3(rt, "group report response", d.group_report_response)?;
     type3(rt, "authentication uplink", d.authentication_uplink)?;
@@ -335,31 +292,15 @@ fn accept(rt: &impl Print, a: DLocationUpdateAccept) -> io::Result<()> {
         "location update accept type",
         a.location_update_accept_type,
     )?;
-    field_if(rt, 1, "SSI", a.ssi.present.then_some(a.ssi.value))?;
-    field_if(
-        rt,
-        1,
-        "address extension",
-        a.address_extension
-            .present
-            .then_some(a.address_extension.value),
-    )?;
-    field_if(
-        rt,
-        1,
-        "subscriber class",
-        a.subscriber_class
-            .present
-            .then_some(a.subscriber_class.value),
-    )?;
+    field_if(rt, 1, "SSI", a.ssi)?;
+    field_if(rt, 1, "address extension", a.address_extension)?;
+    field_if(rt, 1, "subscriber class", a.subscriber_class)?;
     energy_saving(rt, a.energy_saving_information)?;
     field_if(
         rt,
         1,
         "SCCH information and distribution on 18th frame",
-        a.scch_information_and_distribution_on_18th_frame
-            .present
-            .then_some(a.scch_information_and_distribution_on_18th_frame.value),
+        a.scch_information_and_distribution_on_18th_frame,
     )?;
     type4(rt, "new registered area", a.new_registered_area)?;
     type3(rt, "security downlink", a.security_downlink)?;
@@ -395,7 +336,15 @@ fn attach_detach(rt: &impl Print, d: DAttachDetachGroupIdentity) -> io::Result<(
     )?;
     type3(rt, "proprietary", d.proprietary)?;
     type3(rt, "group report response", d.group_report_response)?;
-    downlinks(rt, 1, d.group_identity_downlink)?;
+    let l = d.group_identity_downlink;
+    groups(
+        rt,
+        1,
+        "group identity downlink",
+        l.present,
+        l.count,
+        &l.groups,
+    )?;
     type4(
         rt,
         "group identity security related information",

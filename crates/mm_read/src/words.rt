@@ -30,40 +30,25 @@ fn is_blank(character: u8) -> bool
     matches!(character, b' ' | b'\t')
 }
 
-fn first_solid(text: &[u8]) -> Option<usize>
-    ensures place { result ≡ position (λ x. not (is_blank x)) text.now }
-    ensures within { IfSome result (λ i. i < length text.now) }
-{
-    text.iter().position(|c| !is_blank(*c))
-}
-
-fn first_blank(text: &[u8]) -> Option<usize>
-    ensures place { result ≡ position is_blank text.now }
-    ensures within { IfSome result (λ i. i < length text.now) }
-{
-    text.iter().position(|c| is_blank(*c))
-}
-
 impl<'a> Text<'a> {
-    fn after_blanks(&self) -> Text<'a>
-        ensures { result ≡ unblanked self.now }
+    // The first word, and what stands behind it.
+    fn split(&self) -> (Text<'a>, Text<'a>)
+        ensures word { result.0 ≡ first_word self.now }
+        ensures behind { result.1 ≡ after_word self.now }
     {
         let text = self.characters;
-        let start = first_solid(text).unwrap_or(text.len());
-        Text {
-            characters: &text[start..],
-        }
+        let start = text.iter().position(|c| !is_blank(*c));
+        let rest = &text[start.unwrap_or(text.len())..];
+        let end = rest.iter().position(|c| is_blank(*c));
+        let (word, behind) = rest.split_at(end.unwrap_or(rest.len()));
+        (Text { characters: word }, Text { characters: behind })
     }
 
     // The first word; empty if there is none: an `Option` would be opened again once the words are counted.
     pub(crate) fn first_word(&self) -> Text<'a>
         ensures { result ≡ first_word self.now }
     {
-        let rest = self.after_blanks().characters;
-        let end = first_blank(rest).unwrap_or(rest.len());
-        Text {
-            characters: &rest[..end],
-        }
+        self.split().0
     }
 
     // Whether no word is left.
@@ -77,11 +62,7 @@ impl<'a> Text<'a> {
     pub(crate) fn after_word(&self) -> Text<'a>
         ensures { result ≡ after_word self.now }
     {
-        let rest = self.after_blanks().characters;
-        let end = first_blank(rest).unwrap_or(rest.len());
-        Text {
-            characters: &rest[end..],
-        }
+        self.split().1
     }
 }
 

@@ -2,11 +2,12 @@
 use crate::build::Message;
 use elements::class_of_ms::OptionalClassOfMs;
 use elements::energy_saving_information::OptionalEnergySavingInformation;
-use elements::group_identity_downlink::{GroupIdentityDownlink, OptionalDownlinks};
+use elements::group_address::GroupAddress;
+use elements::group_identity_downlink::GroupIdentityDownlink;
 use elements::group_identity_location_accept::OptionalLocationAccept;
 use elements::group_identity_location_demand::OptionalLocationDemand;
-use elements::group_identity_uplink::{GroupIdentityUplink, OptionalUplinks};
-use elements::typed_pdu_fields::{OptionalType3, OptionalType4, OptionalU8, OptionalU64};
+use elements::group_identity_uplink::GroupIdentityUplink;
+use elements::typed_pdu_fields::{OptionalType3, OptionalType4, OptionalU8};
 use messages::d_attach_detach_group_identity::DAttachDetachGroupIdentity;
 use messages::d_location_update_accept::DLocationUpdateAccept;
 use messages::u_location_update_demand::ULocationUpdateDemand;
@@ -15,13 +16,8 @@ use std::fmt::Display;
 use std::io;
 use std::ops::Range;
 
-// What the record holds, where it is present.
 fn octet(n: OptionalU8) -> Option<u64> {
-    n.present.then_some(u64::from(n.value))
-}
-
-fn number(n: OptionalU64) -> Option<u64> {
-    n.present.then_some(n.value)
+    Option::<u8>::from(n).map(u64::from)
 }
 
 // The numbers that are present, each behind its label.
@@ -57,32 +53,8 @@ fn type4(rt: &impl Print, identifier: u8, g: OptionalType4) -> io::Result<()> {
 // The 22 fields in order, a digit each.
 fn class_of_ms(rt: &impl Print, o: OptionalClassOfMs) -> io::Result<()> {
     if o.present {
-        let k = o.value;
         print!(rt; " class ")?;
-        for digit in &[
-            k.freq_simplex_duplex,
-            k.multislot_phase_mod,
-            k.concurrent_multicarrier,
-            k.voice,
-            k.e2e_encryption_not_supported,
-            k.circuit_mode_data,
-            k.tetra_packet_data,
-            k.fast_switching,
-            k.dck_encryption,
-            k.clch_needed,
-            k.concurrent_circuit_mode,
-            k.original_advanced_link,
-            k.minimum_mode,
-            k.carrier_specific_signalling,
-            k.authentication,
-            k.sck_encryption,
-            k.air_interface_version,
-            k.common_scch,
-            k.reserved_21,
-            k.mac_d_blck,
-            k.extended_advanced_link,
-            k.d8psk,
-        ] {
+        for digit in o.value.fields() {
             print!(rt; "{digit}")?;
         }
     }
@@ -104,84 +76,76 @@ fn energy_saving(rt: &impl Print, o: OptionalEnergySavingInformation) -> io::Res
     Ok(())
 }
 
-// Uplink and downlink groups are two types of the library, so what both hold is written for each.
-fn uplink(rt: &impl Print, g: &GroupIdentityUplink) -> io::Result<()> {
+// What a group of either direction holds.
+#[derive(Clone, Copy)]
+struct Group {
+    lifetime: Option<u8>,
+    usage: Option<u16>,
+    detachment: Option<u8>,
+    address: GroupAddress,
+}
+
+impl From<GroupIdentityUplink> for Group {
+    fn from(g: GroupIdentityUplink) -> Group {
+        Group {
+            lifetime: None,
+            usage: g.class_of_usage_present.then_some(g.class_of_usage),
+            detachment: g
+                .group_identity_detachment_uplink_present
+                .then_some(g.group_identity_detachment_uplink),
+            address: g.address(),
+        }
+    }
+}
+
+impl From<GroupIdentityDownlink> for Group {
+    fn from(g: GroupIdentityDownlink) -> Group {
+        let attachment = g
+            .group_identity_attachment_present
+            .then_some(g.group_identity_attachment);
+        Group {
+            lifetime: attachment.map(|a| a.group_identity_attachment_lifetime),
+            usage: attachment.map(|a| u16::from(a.class_of_usage)),
+            detachment: g
+                .group_identity_detachment_uplink_present
+                .then_some(g.group_identity_detachment_uplink),
+            address: g.address(),
+        }
+    }
+}
+
+fn one_group(rt: &impl Print, g: Group) -> io::Result<()> {
     print!(rt; " |")?;
     numbers(
         rt,
         &[
-            (
-                "usage",
-                g.class_of_usage_present
-                    .then_some(u64::from(g.class_of_usage)),
-            ),
-            (
-                "detachment",
-                g.group_identity_detachment_uplink_present
-                    .then_some(u64::from(g.group_identity_detachment_uplink)),
-            ),
-            ("gssi", g.gssi_present.then_some(u64::from(g.gssi))),
-            (
-                "extension",
-                g.address_extension_present
-                    .then_some(u64::from(g.address_extension)),
-            ),
-            ("vgssi", g.vgssi_present.then_some(u64::from(g.vgssi))),
+            ("lifetime", g.lifetime.map(u64::from)),
+            ("usage", g.usage.map(u64::from)),
+            ("detachment", g.detachment.map(u64::from)),
+            ("gssi", g.address.gssi.map(u64::from)),
+            ("extension", g.address.address_extension.map(u64::from)),
+            ("vgssi", g.address.vgssi.map(u64::from)),
         ],
     )
 }
 
-fn downlink(rt: &impl Print, g: &GroupIdentityDownlink) -> io::Result<()> {
-    let attached = g.group_identity_attachment_present;
-    let attachment = g.group_identity_attachment;
-    print!(rt; " |")?;
-    numbers(
-        rt,
-        &[
-            (
-                "lifetime",
-                attached.then_some(u64::from(attachment.group_identity_attachment_lifetime)),
-            ),
-            (
-                "usage",
-                attached.then_some(u64::from(attachment.class_of_usage)),
-            ),
-            (
-                "detachment",
-                g.group_identity_detachment_uplink_present
-                    .then_some(u64::from(g.group_identity_detachment_uplink)),
-            ),
-            ("gssi", g.gssi_present.then_some(u64::from(g.gssi))),
-            (
-                "extension",
-                g.address_extension_present
-                    .then_some(u64::from(g.address_extension)),
-            ),
-            ("vgssi", g.vgssi_present.then_some(u64::from(g.vgssi))),
-        ],
-    )
-}
-
-// The count, the first group and the last.
-fn list<P: Print, G, F: Fn(&P, &G) -> io::Result<()>>(
-    rt: &P,
+// The count, the first group and the last of a list, which the C interface keeps whole: the first `count` are there.
+fn list<G: Copy + Into<Group>>(
+    rt: &impl Print,
     present: bool,
     count: usize,
     groups: &[G],
-    one: F,
-) -> io::Result<()>
-    requires { F.IsAlwaysCallable one }
-{
+) -> io::Result<()> {
     if !present {
         return Ok(());
     }
     print!(rt; " | list {count}")?;
     let mut listed = groups.iter().take(count);
     if let Some(g) = listed.next() {
-        one(rt, g)?;
+        one_group(rt, (*g).into())?;
     }
     if let Some(g) = listed.last() {
-        one(rt, g)?;
+        one_group(rt, (*g).into())?;
     }
     Ok(())
 }
@@ -194,7 +158,7 @@ fn location_demand(rt: &impl Print, o: OptionalLocationDemand) -> io::Result<()>
             location.group_identity_attach_detach_mode
         )?;
         let l = location.group_identity_uplink;
-        list(rt, l.present, l.count, &l.groups, uplink)?;
+        list(rt, l.present, l.count, &l.groups)?;
     }
     Ok(())
 }
@@ -207,7 +171,7 @@ fn location_accept(rt: &impl Print, o: OptionalLocationAccept) -> io::Result<()>
             location.group_identity_accept_reject
         )?;
         let l = location.group_identity_downlink;
-        list(rt, l.present, l.count, &l.groups, downlink)?;
+        list(rt, l.present, l.count, &l.groups)?;
     }
     Ok(())
 }
@@ -217,15 +181,15 @@ fn demand(rt: &impl Print, d: ULocationUpdateDemand) -> io::Result<()> {
         " update type {} append {} cipher {}",
         d.location_update_type, d.request_to_append_la, d.cipher_control
     )?;
-    numbers(rt, &[("ciphering", number(d.ciphering_parameters))])?;
+    numbers(rt, &[("ciphering", d.ciphering_parameters.into())])?;
     class_of_ms(rt, d.class_of_ms)?;
     numbers(
         rt,
         &[
             ("mode", octet(d.energy_saving_mode)),
-            ("la", number(d.la_information)),
-            ("ssi", number(d.ssi)),
-            ("extension", number(d.address_extension)),
+            ("la", d.la_information.into()),
+            ("ssi", d.ssi.into()),
+            ("extension", d.address_extension.into()),
         ],
     )?;
     location_demand(rt, d.group_identity_location_demand)?;
@@ -240,14 +204,14 @@ fn accept(rt: &impl Print, a: DLocationUpdateAccept) -> io::Result<()> {
     numbers(
         rt,
         &[
-            ("ssi", number(a.ssi)),
-            ("extension", number(a.address_extension)),
-            ("subscriber", number(a.subscriber_class)),
+            ("ssi", a.ssi.into()),
+            ("extension", a.address_extension.into()),
+            ("subscriber", a.subscriber_class.into()),
         ],
     )?;
     energy_saving(rt, a.energy_saving_information)?;
     let scch = a.scch_information_and_distribution_on_18th_frame;
-    numbers(rt, &[("scch", number(scch))])?;
+    numbers(rt, &[("scch", scch.into())])?;
     type4(rt, 2, a.new_registered_area)?;
     type3(rt, 3, a.security_downlink)?;
     location_accept(rt, a.group_identity_location_accept)?;
@@ -267,7 +231,7 @@ fn attach_detach(rt: &impl Print, d: DAttachDetachGroupIdentity) -> io::Result<(
     type3(rt, 15, d.proprietary)?;
     type3(rt, 4, d.group_report_response)?;
     let l = d.group_identity_downlink;
-    list(rt, l.present, l.count, &l.groups, downlink)?;
+    list(rt, l.present, l.count, &l.groups)?;
     type4(rt, 12, d.group_identity_security_related_information)
 }
 
