@@ -54,8 +54,8 @@ impl<const N: usize> Draft<N> {
 
     // Fields: the value and the width of each.
     pub(crate) fn fields(&mut self, fields: &[(u64, usize)]) {
-        for (value, width) in fields {
-            self.put(*value, *width);
+        for &(value, width) in fields {
+            self.put(value, width);
         }
     }
 

@@ -8,8 +8,7 @@ use crate::records::{
 use crate::values::{
     OVER_24, class_of_version, downlink_at, downlinks, gssi, type4, uplink_at, uplinks,
 };
-use elements::group_identity_downlink::no_downlinks;
-use elements::group_identity_uplink::no_uplinks;
+use elements::group_list::no_list;
 use std::io;
 
 fn demand_widths(rt: &impl Print) -> io::Result<()> {
@@ -30,7 +29,7 @@ fn demand_widths(rt: &impl Print) -> io::Result<()> {
     changed(rt, "extension 2^24", |d: &mut Demand| {
         d.address_extension = Some(OVER_24).into();
     })?;
-    trial(rt, "mode 2", located(Demand::start(), 2, no_uplinks()))
+    trial(rt, "mode 2", located(Demand::start(), 2, no_list()))
 }
 
 fn generic_widths(rt: &impl Print) -> io::Result<()> {
@@ -69,7 +68,7 @@ fn accept_widths(rt: &impl Print) -> io::Result<()> {
     trial(
         rt,
         "accept/reject 2",
-        answered(Accept::start(), 2, no_downlinks()),
+        answered(Accept::start(), 2, no_list()),
     )
 }
 

@@ -5,8 +5,7 @@ use crate::records::{
 };
 use crate::show::line_512;
 use crate::values::{class_of_version, downlink_at, downlinks, gssi, type3, uplink_at, uplinks};
-use elements::group_identity_downlink::no_downlinks;
-use elements::group_identity_uplink::no_uplinks;
+use elements::group_list::no_list;
 use messages::{ACCEPT, DEMAND, STRICT, read};
 use std::io;
 
@@ -53,13 +52,13 @@ fn demands(rt: &impl Print) -> io::Result<()> {
 fn lists(rt: &impl Print) -> io::Result<()> {
     trial(rt, "nothing optional", Accept::start())?;
     trial(rt, "nothing optional", AttachDetach::start())?;
-    trial(rt, "no list", demand_list(no_uplinks()))?;
+    trial(rt, "no list", demand_list(no_list()))?;
     trial(
         rt,
         "empty list",
         demand_list(uplinks(0, [uplink_at(gssi(1)); 63])),
     )?;
-    trial(rt, "no list", accept_list(no_downlinks()))?;
+    trial(rt, "no list", accept_list(no_list()))?;
     let empty = downlinks(0, [downlink_at(gssi(1)); 63]);
     trial(rt, "empty list", accept_list(empty))?;
     trial(rt, "empty list", attach_detach_list(empty))

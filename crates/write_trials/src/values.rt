@@ -44,14 +44,12 @@ pub(crate) fn saving(
     frame: OptionalU8,
     multiframe: OptionalU8,
 ) -> OptionalEnergySavingInformation {
-    OptionalEnergySavingInformation {
-        present: true,
-        value: EnergySavingInformation {
-            energy_saving_mode: mode,
-            frame_number: frame,
-            multiframe_number: multiframe,
-        },
-    }
+    Some(EnergySavingInformation {
+        energy_saving_mode: mode,
+        frame_number: frame,
+        multiframe_number: multiframe,
+    })
+    .into()
 }
 
 // An address with those parts present that are asked for.

@@ -11,8 +11,8 @@ use std::ops::Range;
 
 // Windows of no bits, one that is a bit short, and one that just holds the message.
 fn rooms(rt: &impl Print, name: &str, enough: usize, m: impl Message) -> io::Result<()> {
-    for bits in &[0, enough.saturating_sub(1), enough] {
-        window(rt, format_args!("{name} in {bits} bits"), 0..*bits, m)?;
+    for bits in [0, enough.saturating_sub(1), enough] {
+        window(rt, format_args!("{name} in {bits} bits"), 0..bits, m)?;
     }
     Ok(())
 }
@@ -72,9 +72,9 @@ fn many_groups(rt: &impl Print) -> io::Result<()> {
 
 // 258 is 2 in its low 8 bits.
 fn unknown(rt: &impl Print) -> io::Result<()> {
-    for message in &[0, 3, 4, 258, u64::MAX] {
+    for message in [0, 3, 4, 258, u64::MAX] {
         let name = format_args!("message {message}");
-        line_512(rt, name, 0..10, *message, Demand::start().alone())?;
+        line_512(rt, name, 0..10, message, Demand::start().alone())?;
     }
     Ok(())
 }
