@@ -5,6 +5,7 @@ ghost use Rattle.mm_read.specs.Lines.{kept, held_by, without_return};
 
 use crate::call::Fault;
 use crate::words::Text;
+use arrayvec::ArrayVec;
 use std::marker::Model;
 
 // Room for a line and one character more: a line that fills it is too long.
@@ -15,17 +16,14 @@ pub(crate) const NEWLINE: u8 = b'\n';
 // What has come of a line, and the line's number.
 #[derive(Drop)]
 pub(crate) struct Line {
-    characters: [u8; LINE],
-    count: usize,
+    characters: ArrayVec<u8, LINE>,
     number: u64,
 }
 
 impl Model for Line {
     ghost Value = { List ℕ };
 
-    ghost view = { λ l. take l.count l.characters };
-
-    ghost invariant = { λ l. l.count ≤ LINE };
+    ghost view = { λ l. l.characters.items };
 }
 
 // A line without the carriage return at its end.
@@ -41,8 +39,7 @@ impl Line {
         ensures { result ≡ [] }
     {
         Line {
-            characters: [0; LINE],
-            count: 0,
+            characters: ArrayVec::new(),
             number: 1,
         }
     }
@@ -54,7 +51,7 @@ impl Line {
     pub(crate) fn is_empty(&self) -> bool
         ensures { result ≡ (length self.now == 0) }
     {
-        self.count == 0
+        self.characters.is_empty()
     }
 
     // The line without the carriage return at its end.
@@ -62,11 +59,11 @@ impl Line {
         ensures fits { IsOk result ↔ (length self.now < LINE) }
         ensures text { IfOk result (λ t. t ≡ without_return self.now) }
     {
-        if self.count == LINE {
+        if self.characters.is_full() {
             return Err(Fault::LineTooLong);
         }
         Ok(Text {
-            characters: without_return(&self.characters[..self.count]),
+            characters: without_return(&self.characters),
         })
     }
 
@@ -74,9 +71,8 @@ impl Line {
     fn keep(&mut self, character: u8)
         ensures { self.new ≡ kept LINE self.old character }
     {
-        if self.count < LINE {
-            self.characters[self.count] = character;
-            self.count += 1;
+        if !self.characters.is_full() {
+            self.characters.push(character);
         }
     }
 
@@ -85,7 +81,7 @@ impl Line {
         ensures { self.new ≡ held_by LINE self.old character }
     {
         if character == NEWLINE {
-            self.count = 0;
+            self.characters.clear();
             self.number = self.number.wrapping_add(1);
         } else {
             self.keep(character);
