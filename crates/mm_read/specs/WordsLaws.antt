@@ -72,25 +72,22 @@ octets_end [] h = refl
 octets_end (x ∷ []) h = refl
 octets_end (x ∷ y ∷ xs) h = absurd (omega arith)
 
--- the first octets are put, and one more
-octets_put : (s out pair rest : List ℕ) (i x : ℕ) → length pair ≡ 2 → i < length out → x ≡ octet_of (slice_index pair 0) (slice_index pair 1)
-    → octets s ≡ take i out ++ octets (pair ++ rest) → octets s ≡ take (i + 1) (slice_set out i x) ++ octets rest
+-- one octet more
+octets_put : (s out pair rest : List ℕ) (x : ℕ) → length pair ≡ 2 → x ≡ octet_of (slice_index pair 0) (slice_index pair 1)
+    → octets s ≡ out ++ octets (pair ++ rest) → octets s ≡ (out ++ x ∷ []) ++ octets rest
 unfolding octets
-octets_put s out (y ∷ z ∷ []) rest i x e h q p = rw (add-one, take-suc-set out i x h, append_assoc, q) p
-octets_put s out [] rest i x e h q p = absurd (omega arith)
-octets_put s out (y ∷ []) rest i x e h q p = absurd (omega arith)
-octets_put s out (y ∷ z ∷ w ∷ ws) rest i x e h q p = absurd (omega arith)
+octets_put s out (y ∷ z ∷ []) rest x e q p = rw (append_assoc, q) p
+octets_put s out [] rest x e q p = absurd (omega arith)
+octets_put s out (y ∷ []) rest x e q p = absurd (omega arith)
+octets_put s out (y ∷ z ∷ w ∷ ws) rest x e q p = absurd (omega arith)
 
-pub octets_more : (s out all pair rest : List ℕ) (i j k x : ℕ) → all ≡ pair ++ rest → length pair ≡ 2 → j ≡ i → k ≡ i + 1 → i < length out → x ≡ octet_of (slice_index pair 0) (slice_index pair 1)
-    → octets s ≡ take i out ++ octets all → octets s ≡ take k (slice_set out j x) ++ octets rest
-octets_more s out all pair rest i j k x a e f g h q p =
-    rw (f, g) (octets_put s out pair rest i x e h q (p ∙ ap (λ xs. take i out ++ octets xs) a))
+pub octets_more : (s out new all pair rest : List ℕ) (x : ℕ) → all ≡ pair ++ rest → length pair ≡ 2 → x ≡ octet_of (slice_index pair 0) (slice_index pair 1) → new ≡ out ++ x ∷ []
+    → octets s ≡ out ++ octets all → octets s ≡ new ++ octets rest
+octets_more s out new all pair rest x a e q n p = rw n (octets_put s out pair rest x e q (p ∙ ap (λ xs. out ++ octets xs) a))
 
--- all are put
-pub octets_done : (s out rest : List ℕ) (i : ℕ) → length rest < 2 → 2 * i + length rest ≡ length s → octets s ≡ take i out ++ octets rest → take (length s / 2) out ≡ octets s
-octets_done s out rest i h e p =
-    let n : length s / 2 ≡ i = omega arith in
-    rw n (sym (p ∙ (rw (octets_end rest h, append-nil))))
+-- all are there
+pub octets_done : (s out rest : List ℕ) → length rest < 2 → octets s ≡ out ++ octets rest → out ≡ octets s
+octets_done s out rest h p = sym (p ∙ (rw (octets_end rest h, append-nil)))
 
 -- PARTS OF A TEXT
 pub unblanked_is : (s t : List ℕ) (o : Option ℕ) (n : ℕ) → s ≡ t → o ≡ position (λ x. not (is_blank x)) s → n ≡ unwrap_or o (length s) → take (length s - n) (drop n s) ≡ unblanked t

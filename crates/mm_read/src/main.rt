@@ -15,19 +15,18 @@ use line::{LINE, Line, NEWLINE};
 use messages::read;
 use std::io;
 use std::io::Read;
-use words::{OCTETS, Text, put_octets};
+use words::{Text, octets_of};
 
 // How much is read at once.
 const PIECE: usize = 4096;
 
 fn answer_call(rt: &impl Print, number: u64, call: Call, hex: &Text) -> io::Result<()> {
-    let mut room = [0u8; OCTETS];
-    let octets = put_octets(hex, &mut room);
+    let octets = octets_of(hex);
     show::heading(rt, number, call)?;
     show::reading(
         rt,
         call.message,
-        read(octets, call.first, call.end, call.message, call.wanted),
+        read(&octets, call.first, call.end, call.message, call.wanted),
     )
 }
 

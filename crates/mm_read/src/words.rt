@@ -4,6 +4,7 @@ ghost use Rattle.mm_read.specs.declared.line.TheConstants.{LINE};
 ghost use Rattle.mm_read.specs.Words.{is_blank, unblanked, first_word, after_word, no_word, digit_of, octet_of, octets, decimal_of};
 
 use crate::line::LINE;
+use arrayvec::ArrayVec;
 use std::marker::Model;
 
 // The octets that a text writes at most.
@@ -85,15 +86,15 @@ fn octet(high: u8, low: u8) -> u8
     (16 * high + low) as u8
 }
 
-// Puts the octets that hexadecimal digits write in front of `out`, and gives them.
-pub(crate) fn put_octets<'a>(hex: &Text, out: &'a mut [u8; OCTETS]) -> &'a [u8]
-    ensures { result.now ≡ octets hex.now }
+// The octets that hexadecimal digits write.
+pub(crate) fn octets_of(hex: &Text) -> ArrayVec<u8, OCTETS>
+    ensures { result.items ≡ octets hex.now }
 {
-    let digits = hex.characters;
-    for (i, pair) in digits.chunks_exact(2).enumerate() {
-        out[i] = octet(pair[0], pair[1]);
+    let mut out = ArrayVec::new();
+    for pair in hex.characters.chunks_exact(2) {
+        out.push(octet(pair[0], pair[1]));
     }
-    &out[..digits.len() / 2]
+    out
 }
 
 // The number that decimal digits write, if it fits 64 bits.
