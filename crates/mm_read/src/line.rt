@@ -1,5 +1,5 @@
 // A line as it comes in, character by character.
-ghost use Rattle.std.specs.Prelude.{◌≡◌, ℕ, ◌<◌, ◌≤◌, ◌↔◌, List, [], length, take, ◌==◌, IfOk, IsOk};
+ghost use Rattle.std.specs.Prelude.{◌≡◌, ℕ, ◌<◌, ◌↔◌, List, [], length, ◌==◌, IfOk, IsOk};
 ghost use Rattle.mm_read.specs.declared.line.TheConstants.{LINE};
 ghost use Rattle.mm_read.specs.Lines.{kept, held_by, without_return};
 

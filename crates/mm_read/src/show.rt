@@ -42,6 +42,7 @@ fn field_if(
     Ok(())
 }
 
+// An octet that may be absent, as the number that `field_if` takes.
 fn octet(n: OptionalU8) -> Option<u64> {
     Option::<u8>::from(n).map(u64::from)
 }
@@ -222,6 +223,7 @@ fn groups<G: Copy + Into<Group>>(
     Ok(())
 }
 
+// Each structure has fields and a list of its own, so there is a function for each.
 fn location_demand(rt: &impl Print, o: OptionalLocationDemand) -> io::Result<()> {
     if o.present {
         let v = o.value;

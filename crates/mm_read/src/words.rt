@@ -1,7 +1,7 @@
 // The words of a line, and what they spell.
-ghost use Rattle.std.specs.Prelude.{◌≡◌, ℕ, ◌<◌, ◌≤◌, not, List, length, position, IfSome};
+ghost use Rattle.std.specs.Prelude.{◌≡◌, ℕ, ◌<◌, ◌≤◌, List, length, IfSome};
 ghost use Rattle.mm_read.specs.declared.line.TheConstants.{LINE};
-ghost use Rattle.mm_read.specs.Words.{is_blank, unblanked, first_word, after_word, no_word, digit_of, octet_of, octets, decimal_of};
+ghost use Rattle.mm_read.specs.Words.{is_blank, first_word, after_word, no_word, digit_of, octet_of, octets, decimal_of};
 
 use crate::line::LINE;
 use arrayvec::ArrayVec;

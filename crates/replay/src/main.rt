@@ -24,6 +24,7 @@ struct Window {
     ghost fits: { count ≤ 4200 },
 }
 
+// Callers name the octets one by one: the check does not cover `window @ ..` in an array's pattern.
 impl From<[u8; 6]> for Window {
     fn from(octets: [u8; 6]) -> Window {
         let [a, b, c, d, e, f] = octets;

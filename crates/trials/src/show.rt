@@ -16,6 +16,7 @@ use std::fmt::Display;
 use std::io;
 use std::ops::Range;
 
+// An octet that may be absent, as the number that `numbers` takes.
 fn octet(n: OptionalU8) -> Option<u64> {
     Option::<u8>::from(n).map(u64::from)
 }
@@ -150,6 +151,7 @@ fn list<G: Copy + Into<Group>>(
     Ok(())
 }
 
+// Each structure has a number and a list of its own, so there is a function for each.
 fn location_demand(rt: &impl Print, o: OptionalLocationDemand) -> io::Result<()> {
     if o.present {
         let location = o.value;
