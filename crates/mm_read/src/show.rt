@@ -84,7 +84,7 @@ fn type4(rt: &impl Print, name: &str, o: OptionalType4) -> io::Result<()> {
 }
 
 // The fields of a class of MS, in order.
-const CLASS_OF_MS: [&str; 22] = [
+const CLASS_FIELDS: [&str; 22] = [
     "frequency simplex/duplex",
     "multislot phase modulation",
     "concurrent multicarrier",
@@ -112,7 +112,7 @@ const CLASS_OF_MS: [&str; 22] = [
 fn class_of_ms(rt: &impl Print, o: OptionalClassOfMs) -> io::Result<()> {
     if o.present {
         field(rt, 1, "class of MS", "present")?;
-        for (name, value) in CLASS_OF_MS.iter().zip(o.value.fields()) {
+        for (name, value) in CLASS_FIELDS.iter().zip(o.value.fields()) {
             field(rt, 2, name, value)?;
         }
     }
