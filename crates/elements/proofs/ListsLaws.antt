@@ -15,7 +15,7 @@ use Rattle.bits.specs.Reader.{got, times, exactly, Local}
 use Rattle.bits.specs.ReaderLaws.{local·rules, got-local, bind_local, times-local, local_tail, split-then, exactly-got, Passes, exactly-passes}
 use Rattle.elements.specs.Numbers.{held, option_all}
 use Rattle.elements.proofs.NumbersLaws.{never, both, same_map}
-use Rattle.elements.specs.GroupListLaws.{uplink-local, downlink-local}
+use Rattle.elements.specs.TraitLaws.{uplink-local, downlink-local}
 use Rattle.elements.proofs.GroupsLaws.{uplink_back_lem, uplink-same, uplink_normal-same, uplink-own, downlink_back_lem, downlink-same, downlink_normal-same, downlink-own}
 use Rattle.elements.specs.Generics.{entries_width}
 use Rattle.elements.proofs.GenericsLaws.{entries-back, entries-got, exactly-back, entries-passes}

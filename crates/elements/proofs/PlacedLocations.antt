@@ -1,14 +1,14 @@
 -- A list inside a structure, a structure of a declared length, and the slots of a message's table, read at a cursor: for any kind of
 -- group, any front of a structure and any kind of content.
-use Rattle.std.specs.Prelude.{ℕ, ◌-◌, ◌≤◌, ◌≡◌, refl, Bool, List, [], eqb}
-use Rattle.std.proofs.Common.{sym, ◌∙◌}
+use Rattle.std.specs.Prelude.{ℕ, ◌-◌, ◌≤◌, ◌≡◌, refl, Bool, List, [], length, eqb}
+use Rattle.std.proofs.Common.{sym, ap, ◌∙◌}
 use Rattle.std.proofs.Math.Bool.{true, false}
 use Rattle.std.specs.Prelude.{Option, None, Some}
 use Rattle.bits.specs.PduParseError.{inconsistent_length}
 use Rattle.bits.specs.Bits.{Bits}
 use Rattle.bits.specs.Reader.{Answer, got, refused, Reader, then, ◌>>=◌, field, exactly, Local, Tail}
 use Rattle.bits.specs.ReaderLaws.{then-then, then_same, local·rules, local_tail, field-local, bind_tail}
-use Rattle.bits.specs.Placed.{window, Placed, placed, halted}
+use Rattle.bits.specs.Placed.{window, Placed, placed, halted, at, place}
 use Rattle.bits.specs.PlacedLaws.{Gives, told, step, stop, done}
 use Rattle.bits.specs.PlacedTimes.{alike, exact, inexact, exact-stop}
 use Rattle.bits.specs.declared.bitbuffer.Cursor.{Cursor}
@@ -22,7 +22,9 @@ use Rattle.elements.proofs.LocationsLaws.{nested-local}
 use Rattle.elements.specs.Kinds.{Kind, of_downlinks, row, Element, is_downlinks, held_element, content_of, identifier_of, content}
 use Rattle.elements.specs.Rows.{empty_table}
 use Rattle.elements.specs.Fronts.{slot_front}
-use Rattle.elements.specs.GroupAnswers.{nested_slot, nested_slot_if, downlinks_slot}
+use Rattle.elements.specs.GroupAnswers.{nested_slot, nested_slot_if, downlinks_slot, Structures, structure_slot}
+use Rattle.elements.specs.TraitLaws.{Shaped}
+use Rattle.elements.proofs.PlacedOptional.{known}
 use Rattle.elements.proofs.PlacedTable.{front-there}
 use Rattle.elements.specs.declared.group_identity_downlink.OptionalDownlinks.{OptionalDownlinks}
 use Rattle.bits.specs.declared.pdu_parse_error.PduParseErr.{PduParseErr}
@@ -115,18 +117,30 @@ downlinks_slot_lem i = λ j bs.
     with_header (got h rest) = there (list downlinks h.size rest)
     with_header (refused n) = refl
 
--- ## a slot of a message's table: its content is what r gives, made into an element
+-- ## a slot of a message's table that holds a structure
 
-module _ {A B : Type 0} (kind : Kind) (r : ℕ → Reader A) (is : A → Element) (out : Element → B) (made : content_of kind ≡ (λ n. r n >>= λ a. got (is a)))
-    (i : ℕ) {os : List ℕ} {c : Cursor} {n : ℕ} {c₁ : Cursor} (e : Gives (slot_front i) os c (placed (Some n) c₁)) where
-  row-there : {x : Placed B} → Gives (r n >>= λ a. got (out (is a))) os c₁ x → Gives (slot identifier_of content (row i kind) >>= λ o. got (out (held_element o))) os c x
+-- what was read, made into another value
+mapped : {A B : Type 0} → (A → B) → Placed A → Placed B
+mapped f (placed a k) = placed (f a) k
+mapped f (halted n) = halted n
+
+read-made : {A B : Type 0} (f : A → B) {r : Reader A} {os : List ℕ} {c : Cursor} {a : A} {k : Cursor} → Gives r os c (placed a k) → Gives (r >>= λ a. got (f a)) os c (placed (f a) k)
+unfolding at mapped
+read-made f {r} {os} {c} e = record { eq = go (r (window os c)) ∙ ap (mapped f) e.eq }
+  where
+    go : (x : Answer _) → place c (length (window os c)) (then x (λ a. got (f a))) ≡ mapped f (place c (length (window os c)) x)
+    go (got a rest) = refl
+    go (refused n) = refl
+
+module _ {D O : Type 0} (k : Structures D O) (s : Shaped k) (i : ℕ) {os : List ℕ} {c : Cursor} {n : ℕ} {c₁ : Cursor} (e : Gives (slot_front i) os c (placed (Some n) c₁)) where
+  row-there : {x : Placed O} → Gives (k.content n >>= λ d. got (k.out (k.is d))) os c₁ x → Gives (structure_slot k i) os c x
+  unfolding structure_slot
   row-there g =
-      front-there identifier_of content (row i kind) _ e
-      (alike (r n >>= λ a. got (out (is a))) (rw made (then-then (r n (window os c₁)) _ _)) g)
+      front-there identifier_of content (row i k.kind) _ e
+      (alike (k.content n >>= λ d. got (k.out (k.is d))) (rw s.content (then-then (k.content n (window os c₁)) _ _)) g)
 
-  pub row-refused : {m : PduParseErr} → Gives (r n) os c₁ (halted m) → Gives (slot identifier_of content (row i kind) >>= λ o. got (out (held_element o))) os c (halted m)
+  pub row-refused : {m : PduParseErr} → Gives (k.content n) os c₁ (halted m) → Gives (structure_slot k i) os c (halted m)
   row-refused g = row-there (stop _ g)
 
-  pub row_read : {a : A} {c₂ : Cursor} → Tail (r n) → Gives (r n) os c₁ (placed a c₂)
-      → Gives (slot identifier_of content (row i kind) >>= λ o. got (out (held_element o))) os c (placed (out (is a)) c₂)
-  row_read tail g = row-there (step _ g tail done)
+  pub row_read : {d : D} {c₂ : Cursor} → Gives (k.content n) os c₁ (placed d c₂) → Gives (structure_slot k i) os c (placed (k.make true d) c₂)
+  row_read {d} g = known (row-there (read-made (λ d. k.out (k.is d)) g)) (s.held d)

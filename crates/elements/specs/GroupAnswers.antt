@@ -6,8 +6,8 @@ use Rattle.bits.specs.Placed.{Placed}
 use Rattle.elements.specs.Numbers.{value_or}
 use Rattle.elements.specs.Table.{slot}
 use Rattle.elements.specs.Lists.{Groups, list, list_of, uplinks, downlinks}
-use Rattle.elements.specs.Locations.{no_location_demand, no_location_accept}
-use Rattle.elements.specs.Kinds.{row, of_location_demand, of_location_accept, of_downlinks, held_element, identifier_of, content, absent_location_demand, absent_location_accept}
+use Rattle.elements.specs.Locations.{location_demand, no_location_demand, location_accept, no_location_accept}
+use Rattle.elements.specs.Kinds.{Kind, Element, row, of_location_demand, of_location_accept, of_downlinks, is_location_demand, is_location_accept, held_element, identifier_of, content}
 use Rattle.elements.specs.Answers.{judged}
 use Rattle.elements.specs.declared.typed_pdu_fields.Judged.{Judged}
 use Rattle.elements.specs.declared.group_identity_uplink.OptionalUplinks.{OptionalUplinks}
@@ -33,24 +33,54 @@ abbrev pub nested_slot_if : {G L : Type 0} → Groups G L → ℕ → Bool → R
 nested_slot_if k i true = nested_slot k i
 nested_slot_if k i false = got (list_of k None)
 
-abbrev pub location_demand_answer : Placed GroupIdentityLocationDemand → Judged GroupIdentityLocationDemand
-location_demand_answer = judged no_location_demand
+-- a structure D of a message, and what holds it in a record, O
+pub record Structures (D O : Type 0) : Type 1 where
+  pub kind : Kind
+  -- its n bits
+  pub content : ℕ → Reader D
+  pub is : D → Element
+  pub out : Element → O
+  -- what stands where there is none
+  pub none : D
+  pub make : Bool → D → O
 
-abbrev pub location_accept_answer : Placed GroupIdentityLocationAccept → Judged GroupIdentityLocationAccept
-location_accept_answer = judged no_location_accept
+abbrev pub location_demands : Structures GroupIdentityLocationDemand OptionalLocationDemand
+location_demands = record {
+  kind = of_location_demand;
+  content = location_demand;
+  is = is_location_demand;
+  out = λ e. e.location_demand;
+  none = no_location_demand;
+  make = λ p d. record { present = p; value = d };
+}
 
--- the slot of a message's table that holds the structure, or the outer list
-unfoldable pub location_demand_slot : ℕ → Reader OptionalLocationDemand
-location_demand_slot i = slot identifier_of content (row i of_location_demand) >>= λ o. got (held_element o).location_demand
+abbrev pub location_accepts : Structures GroupIdentityLocationAccept OptionalLocationAccept
+location_accepts = record {
+  kind = of_location_accept;
+  content = location_accept;
+  is = is_location_accept;
+  out = λ e. e.location_accept;
+  none = no_location_accept;
+  make = λ p d. record { present = p; value = d };
+}
 
-unfoldable pub location_accept_slot : ℕ → Reader OptionalLocationAccept
-location_accept_slot i = slot identifier_of content (row i of_location_accept) >>= λ o. got (held_element o).location_accept
+module _ {D O : Type 0} (k : Structures D O) where
+  -- the slot of a message's table that holds it
+  unfoldable pub structure_slot : ℕ → Reader O
+  structure_slot i = slot identifier_of content (row i k.kind) >>= λ o. got (k.out (held_element o))
 
+  abbrev pub structure_answer : Placed D → Judged D
+  structure_answer = judged k.none
+
+  abbrev pub structure_slot_answer : Placed O → Judged O
+  structure_slot_answer = judged (k.make false k.none)
+
+abbrev pub location_demand_slot : ℕ → Reader OptionalLocationDemand
+location_demand_slot = structure_slot location_demands
+
+abbrev pub location_accept_slot : ℕ → Reader OptionalLocationAccept
+location_accept_slot = structure_slot location_accepts
+
+-- the same of the outer list
 unfoldable pub downlinks_slot : ℕ → Reader OptionalDownlinks
 downlinks_slot i = slot identifier_of content (row i of_downlinks) >>= λ o. got (held_element o).downlinks
-
-abbrev pub location_demand_slot_answer : Placed OptionalLocationDemand → Judged OptionalLocationDemand
-location_demand_slot_answer = judged absent_location_demand
-
-abbrev pub location_accept_slot_answer : Placed OptionalLocationAccept → Judged OptionalLocationAccept
-location_accept_slot_answer = judged absent_location_accept

@@ -6,10 +6,10 @@ pub mod ClassOfMs
 pub mod EnergySaving
 pub mod Generics
 pub mod Lists
-pub mod GroupListLaws
 pub mod Locations
 pub mod Kinds
 pub mod Rows
 pub mod Fronts
 pub mod Answers
 pub mod GroupAnswers
+pub mod TraitLaws

@@ -2,7 +2,7 @@
 ghost use Rattle.std.specs.Prelude.{◌≡◌};
 ghost use Rattle.bits.specs.Placed.{at, as_read};
 ghost use Rattle.elements.specs.Groups.{downlink, downlink_of, downlink_address_in};
-ghost use Rattle.elements.specs.GroupListLaws.{downlink-local, downlinks-made};
+ghost use Rattle.elements.specs.TraitLaws.{downlink-local, downlinks-made};
 ghost use Rattle.elements.specs.Lists.{downlinks};
 
 use crate::group_address::{GroupAddress, read_address};

@@ -2,7 +2,7 @@
 ghost use Rattle.std.specs.Prelude.{◌≡◌};
 ghost use Rattle.bits.specs.Placed.{at, as_read};
 ghost use Rattle.elements.specs.Groups.{uplink, uplink_of, uplink_address_in};
-ghost use Rattle.elements.specs.GroupListLaws.{uplink-local, uplinks-made};
+ghost use Rattle.elements.specs.TraitLaws.{uplink-local, uplinks-made};
 ghost use Rattle.elements.specs.Lists.{uplinks};
 
 use crate::group_address::{GroupAddress, read_address};

@@ -14,6 +14,7 @@ pub mod group_list;
 pub mod location_update_type;
 pub mod mm_pdu_type_dl;
 pub mod mm_pdu_type_ul;
+pub mod structure;
 pub mod type34_elem_id_dl;
 pub mod type34_elem_id_ul;
 pub mod typed_pdu_fields;

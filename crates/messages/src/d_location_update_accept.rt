@@ -16,10 +16,9 @@ use bits::pdu_parse_error::PduParseErr;
 use elements::energy_saving_information::{
     EnergySavingInformation, OptionalEnergySavingInformation, parse_type2_energy_saving,
 };
-use elements::group_identity_location_accept::{
-    OptionalLocationAccept, no_location_accept, read_location_accept_slot,
-};
+use elements::group_identity_location_accept::{GroupIdentityLocationAccept, OptionalLocationAccept};
 use elements::mm_pdu_type_dl::D_LOCATION_UPDATE_ACCEPT;
+use elements::structure::{Structure, read_structure_slot};
 use elements::type34_elem_id_dl::{
     AUTHENTICATION_DOWNLINK, CELL_TYPE_CONTROL, DEFAULT_GROUP_ATTACH_LIFETIME,
     GROUP_IDENTITY_LOCATION_ACCEPT, GROUP_IDENTITY_SECURITY_RELATED_INFORMATION,
@@ -226,7 +225,7 @@ fn read_elements(
     let Ok(c1) = v else {
         return unread(v.unwrap_err());
     };
-    let d = read_location_accept_slot(c1, octets, GROUP_IDENTITY_LOCATION_ACCEPT);
+    let d = read_structure_slot::<GroupIdentityLocationAccept>(c1, octets, GROUP_IDENTITY_LOCATION_ACCEPT);
     let w = d.verdict;
     let Ok(c2) = w else {
         return unread(w.unwrap_err());
@@ -258,10 +257,7 @@ impl OwnRecord for DLocationUpdateAccept {
             obit: 0,
             options: no_options(),
         };
-        let none = OptionalLocationAccept {
-            present: false,
-            value: no_location_accept(),
-        };
+        let none = GroupIdentityLocationAccept::none().optional(false);
         record_of(head, none, NO_GENERICS, NO_GENERICS)
     }
 
@@ -291,10 +287,7 @@ impl Pdu for DLocationUpdateAccept {
         let Ok(c2) = e else {
             return read_elements(c1, octets, head, skipping);
         };
-        let none = OptionalLocationAccept {
-            present: false,
-            value: no_location_accept(),
-        };
+        let none = GroupIdentityLocationAccept::none().optional(false);
         MessageRead {
             verdict: Ok((0, c2)),
             record: record_of(head, none, NO_GENERICS, NO_GENERICS),

@@ -14,10 +14,9 @@ use crate::{MessageRead, OwnRecord, Pdu, Record, unread};
 use bits::bitbuffer::{Cursor, Read};
 use bits::pdu_parse_error::PduParseErr;
 use elements::class_of_ms::{ClassOfMs, OptionalClassOfMs, parse_type2_class_of_ms};
-use elements::group_identity_location_demand::{
-    OptionalLocationDemand, no_location_demand, read_location_demand_slot,
-};
+use elements::group_identity_location_demand::{GroupIdentityLocationDemand, OptionalLocationDemand};
 use elements::mm_pdu_type_ul::U_LOCATION_UPDATE_DEMAND;
+use elements::structure::{Structure, read_structure_slot};
 use elements::type34_elem_id_ul::{
     AUTHENTICATION_UPLINK, EXTENDED_CAPABILITIES, GROUP_IDENTITY_LOCATION_DEMAND,
     GROUP_REPORT_RESPONSE, PROPRIETARY,
@@ -217,7 +216,7 @@ fn read_elements(
     let Ok((n, c1)) = s else {
         return unread(s.unwrap_err());
     };
-    let d = read_location_demand_slot(c1, octets, GROUP_IDENTITY_LOCATION_DEMAND);
+    let d = read_structure_slot::<GroupIdentityLocationDemand>(c1, octets, GROUP_IDENTITY_LOCATION_DEMAND);
     let w = d.verdict;
     let Ok(c2) = w else {
         return unread(w.unwrap_err());
@@ -250,10 +249,7 @@ impl OwnRecord for ULocationUpdateDemand {
             obit: 0,
             options: no_options(),
         };
-        let none = OptionalLocationDemand {
-            present: false,
-            value: no_location_demand(),
-        };
+        let none = GroupIdentityLocationDemand::none().optional(false);
         record_of(head, none, NO_GENERICS)
     }
 
@@ -283,10 +279,7 @@ impl Pdu for ULocationUpdateDemand {
         let Ok(c2) = e else {
             return read_elements(c1, octets, head, skipping);
         };
-        let none = OptionalLocationDemand {
-            present: false,
-            value: no_location_demand(),
-        };
+        let none = GroupIdentityLocationDemand::none().optional(false);
         MessageRead {
             verdict: Ok((0, c2)),
             record: record_of(head, none, NO_GENERICS),

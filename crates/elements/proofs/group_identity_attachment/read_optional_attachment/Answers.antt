@@ -5,7 +5,7 @@ use Rattle.bits.specs.ReaderLaws.{local_tail, field-local}
 use Rattle.bits.specs.Placed.{window}
 use Rattle.bits.specs.PlacedLaws.{so, from, handed_up, step, stop, done}
 use Rattle.bits.specs.PlacedTimes.{alike}
-use Rattle.elements.specs.GroupListLaws.{attachment_info-local}
+use Rattle.elements.specs.TraitLaws.{attachment_info-local}
 use Rattle.elements.proofs.GroupsLaws.{attachment-word}
 use Rattle.elements.proofs.PlacedOptional.{wanted-refused, wanted_read, unwanted}
 use Rattle.elements.proofs.group_identity_attachment.read_optional_attachment.Goals as goal

@@ -10,7 +10,7 @@ use Rattle.bits.specs.Placed.{placed}
 use Rattle.bits.specs.PlacedLaws.{Gives, Fact, fact}
 use Rattle.elements.specs.Kinds.{Element, row, of_location_accept, held_element}
 use Rattle.elements.specs.Rows.{part, no_generics}
-use Rattle.elements.specs.GroupAnswers.{location_accept_slot}
+use Rattle.elements.specs.GroupAnswers.{location_accept_slot, structure_slot}
 use Rattle.elements.proofs.Verdicts.{answer, verdict_to, verdict_refused}
 use Rattle.elements.proofs.Parts.{Each, no_more, one_more, Parts, no_front_lem, no_slot, no_back, all_read}
 use Rattle.elements.specs.declared.typed_pdu_fields.Generic.{Generic}
@@ -54,8 +54,8 @@ front_read : (c : In-Ok) → let a = c.args in
     Gives (part accept_table front false a.skipping 0) a.octets.now a.c (placed c.scan_part-a.result.value c.in-Ok.c1)
 front_read c = verdict_to _ c.scan_part-a.ensures c.in-Ok.is
 
-slot_read : (c : In-Ok-w) → Gives (location_accept_slot 5) c.args.octets.now c.in-Ok.c1 (placed c.read_location_accept_slot-d.result.value c.in-Ok-w.c2)
-slot_read c = verdict_to _ c.read_location_accept_slot-d.ensures c.in-Ok-w.is
+slot_read : (c : In-Ok-w) → Gives (location_accept_slot 5) c.args.octets.now c.in-Ok.c1 (placed c.read_structure_slot-d.result.value c.in-Ok-w.c2)
+slot_read c = verdict_to _ c.read_structure_slot-d.ensures c.in-Ok-w.is
 
 back_read : (c : In-Ok-x) → let a = c.args in
     Gives (part accept_table back true a.skipping 3) a.octets.now c.in-Ok-w.c2 (placed c.scan_part-b.result.value c.in-Ok-x.c3)
@@ -63,10 +63,10 @@ back_read c = verdict_to _ c.scan_part-b.ensures c.in-Ok-x.is
 
 -- the table, of its parts
 abbrev whole : In-Ok-x → Fact
-unfolding location_accept_slot
+unfolding structure_slot
 whole c =
     let a = c.args in
-    fact (all_read _ a.skipping (parts a.head) (verdict_to _ c.scan_part-a.ensures c.in-Ok.is) (verdict_to _ c.read_location_accept_slot-d.ensures c.in-Ok-w.is) (back_read c))
+    fact (all_read _ a.skipping (parts a.head) (verdict_to _ c.scan_part-a.ensures c.in-Ok.is) (verdict_to _ c.read_structure_slot-d.ensures c.in-Ok-w.is) (back_read c))
 
 pub returns-in_default : goal.returns-in_default
 returns-in_default c =
@@ -74,25 +74,25 @@ returns-in_default c =
     c.unread.ensures ∙ answer accept_answer (no_front_lem _ a.skipping (parts a.head) (verdict_refused _ c.scan_part-a.ensures c.unwrap_err.ensures))
 
 pub returns-in_default-w : goal.returns-in_default-w
-unfolding location_accept_slot
+unfolding structure_slot
 returns-in_default-w c =
     let a = c.args in
     c.unread-in_default-w.ensures ∙ answer accept_answer (no_slot _ a.skipping (parts a.head) (front_read ((goal.at.returns-in_default-w c).In-Ok))
-    (verdict_refused _ c.read_location_accept_slot-d.ensures c.unwrap_err-in_default-w.ensures))
+    (verdict_refused _ c.read_structure_slot-d.ensures c.unwrap_err-in_default-w.ensures))
 
 pub returns-in_default-x : goal.returns-in_default-x
-unfolding location_accept_slot
+unfolding structure_slot
 returns-in_default-x c =
     let a = c.args in
     c.unread-in_default-x.ensures ∙ answer accept_answer (no_back _ a.skipping (parts a.head) (front_read ((goal.at.returns-in_default-x c).In-Ok))
     (slot_read ((goal.at.returns-in_default-x c).In-Ok-w)) (verdict_refused _ c.scan_part-b.ensures c.unwrap_err-in_default-x.ensures))
 
 pub overflow_add-result : goal.overflow_add-result
-unfolding location_accept_slot
+unfolding structure_slot
 overflow_add-result c =
     let most = (whole ((goal.at.overflow_add-result c).In-Ok-x)).holds.most in
     grind arith
 
 pub returns : goal.returns
-unfolding location_accept_slot
+unfolding structure_slot
 returns c = rw c.record_of.ensures (answer accept_answer (whole ((goal.at.returns c).In-Ok-x)).holds.is)

@@ -5,7 +5,7 @@ use Rattle.bits.specs.Reader.{word}
 use Rattle.bits.specs.ReaderLaws.{local·rules, local_tail, optional-local}
 use Rattle.bits.specs.PlacedLaws.{so, from, handed_up, step, stop}
 use Rattle.elements.specs.Groups.{downlink, downlink_address}
-use Rattle.elements.specs.GroupListLaws.{attachment_info-local, downlink_address-local}
+use Rattle.elements.specs.TraitLaws.{attachment_info-local, downlink_address-local}
 use Rattle.elements.proofs.PlacedOptional.{from-option, ends}
 use Rattle.elements.proofs.group_identity_downlink.GroupIdentityDownlink.from_bitbuf.Goals as goal
 

@@ -4,7 +4,7 @@ use Rattle.bits.specs.Reader.{word}
 use Rattle.bits.specs.ReaderLaws.{local·rules, local_tail}
 use Rattle.bits.specs.PlacedLaws.{so, from, handed_up, step, stop}
 use Rattle.elements.specs.Groups.{uplink, uplink_address}
-use Rattle.elements.specs.GroupListLaws.{uplink_address-local}
+use Rattle.elements.specs.TraitLaws.{uplink_address-local}
 use Rattle.elements.proofs.PlacedOptional.{from-option, ends}
 use Rattle.elements.proofs.group_identity_uplink.GroupIdentityUplink.from_bitbuf.Goals as goal
 

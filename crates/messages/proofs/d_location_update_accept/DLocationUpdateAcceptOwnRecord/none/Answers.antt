@@ -2,4 +2,4 @@
 use Rattle.messages.proofs.d_location_update_accept.DLocationUpdateAcceptOwnRecord.none.Goals as goal
 
 pub returns : goal.returns
-returns c = rw (c.record_of.ensures, c.no_location_accept.ensures, c.no_options.ensures)
+returns c = rw (c.record_of.ensures, c.optional-none.ensures, c.none.ensures, c.no_options.ensures)

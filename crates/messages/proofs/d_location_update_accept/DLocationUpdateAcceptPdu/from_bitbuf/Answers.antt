@@ -26,4 +26,4 @@ returns-in_default-e c =
 
 pub returns : goal.returns
 returns c =
-    rw (c.record_of.ensures, c.no_location_accept.ensures) (answer accept_answer (none_follow accept_format c.args.skipping (headed ((goal.at.returns c).In-Ok)) (local_tail accept_head-local) (from c.in-Ok-e.ensures)))
+    rw (c.record_of.ensures, c.optional-none.ensures, c.none.ensures) (answer accept_answer (none_follow accept_format c.args.skipping (headed ((goal.at.returns c).In-Ok)) (local_tail accept_head-local) (from c.in-Ok-e.ensures)))

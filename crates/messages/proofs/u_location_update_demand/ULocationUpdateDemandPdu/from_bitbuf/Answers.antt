@@ -26,4 +26,4 @@ returns-in_default-e c =
 
 pub returns : goal.returns
 returns c =
-    rw (c.record_of.ensures, c.no_location_demand.ensures) (answer demand_answer (none_follow demand_format c.args.skipping (headed ((goal.at.returns c).In-Ok)) (local_tail demand_head-local) (from c.in-Ok-e.ensures)))
+    rw (c.record_of.ensures, c.optional-none.ensures, c.none.ensures) (answer demand_answer (none_follow demand_format c.args.skipping (headed ((goal.at.returns c).In-Ok)) (local_tail demand_head-local) (from c.in-Ok-e.ensures)))

@@ -1,4 +1,4 @@
--- `elements::group_identity_location_accept::GroupIdentityLocationAccept::from_bitbuf` meets its contract: by the laws of a list inside a
+-- `elements::group_identity_location_accept::GroupIdentityLocationAcceptReadStructure::from_bitbuf` meets its contract: by the laws of a list inside a
 -- structure, and of a structure of a declared length.
 use Rattle.std.specs.Prelude.{eqb}
 use Rattle.std.proofs.Common.{◌∙◌}
@@ -11,12 +11,12 @@ use Rattle.elements.specs.Lists.{downlinks}
 use Rattle.elements.proofs.ListsLaws.{downlinks_sound}
 use Rattle.elements.specs.Locations.{nested, group_identity_downlink_identifier, accept_body, location_accept}
 use Rattle.elements.proofs.LocationsLaws.{accept_of, accept_laws}
-use Rattle.elements.specs.GroupAnswers.{location_accept_answer}
+use Rattle.elements.specs.GroupAnswers.{location_accepts, structure_answer}
 use Rattle.elements.proofs.Verdicts.{answer, verdict_to, verdict_refused}
 use Rattle.elements.proofs.PlacedLocations.{structure-refused, structure-on, structure-whole, structure-inexact}
 use Rattle.elements.specs.declared.group_identity_location_accept.GroupIdentityLocationAccept.{GroupIdentityLocationAccept}
-use Rattle.elements.proofs.group_identity_location_accept.GroupIdentityLocationAccept.from_bitbuf.Goals as goal
-use Rattle.elements.proofs.group_identity_location_accept.GroupIdentityLocationAccept.from_bitbuf.Goals.{In-Ok-p, In-Ok-v}
+use Rattle.elements.proofs.group_identity_location_accept.GroupIdentityLocationAcceptReadStructure.from_bitbuf.Goals as goal
+use Rattle.elements.proofs.group_identity_location_accept.GroupIdentityLocationAcceptReadStructure.from_bitbuf.Goals.{In-Ok-p, In-Ok-v}
 
 -- the answer is read, and the reserved bit passed: behind them stands the list
 list-behind : (c : In-Ok-p) (x : Placed GroupIdentityLocationAccept) → let a = c.args in
@@ -32,18 +32,18 @@ closed c = verdict_to _ c.read_nested-r.ensures c.in-Ok-v.is
 pub returns-in_default : goal.returns-in_default
 unfolding word accept_body location_accept
 returns-in_default c =
-    c.refused.ensures ∙ answer location_accept_answer (exact-stop c.args.len (stop _ (refused_by c.read-f.ensures c.unwrap_err.ensures)))
+    c.refused.ensures ∙ answer (structure_answer location_accepts) (exact-stop c.args.len (stop _ (refused_by c.read-f.ensures c.unwrap_err.ensures)))
 
 pub returns-in_default-p : goal.returns-in_default-p
 unfolding word accept_body location_accept
 returns-in_default-p c =
-    c.refused-in_default-p.ensures ∙ answer location_accept_answer (exact-stop c.args.len (step _ (from c.in-Ok.ensures) (search local·rules)
+    c.refused-in_default-p.ensures ∙ answer (structure_answer location_accepts) (exact-stop c.args.len (step _ (from c.in-Ok.ensures) (search local·rules)
     (stop _ (refused_moving c.pass-p.ensures c.unwrap_err-in_default-p.ensures))))
 
 pub returns-in_default-v : goal.returns-in_default-v
 unfolding location_accept
 returns-in_default-v c =
-    c.refused-in_default-v.ensures ∙ answer location_accept_answer
+    c.refused-in_default-v.ensures ∙ answer (structure_answer location_accepts)
     (structure-refused downlinks_sound group_identity_downlink_identifier _ (local_tail accept_laws.body-local) (list-behind ((goal.at.returns-in_default-v c).In-Ok-p)) c.args.len
     (verdict_refused _ c.read_nested-r.ensures c.unwrap_err-in_default-v.ensures))
 
@@ -55,13 +55,13 @@ overflow_sub-c3 c =
 pub returns-then-c3-c : goal.returns-then-c3-c
 unfolding location_accept
 returns-then-c3-c c =
-    answer location_accept_answer
+    answer (structure_answer location_accepts)
     (structure-whole downlinks_sound group_identity_downlink_identifier _ (local_tail accept_laws.body-local) (list-behind ((goal.at.returns-then-c3-c c).In-Ok-p)) c.args.len
     (closed ((goal.at.returns-then-c3-c c).In-Ok-v)) c.if-c3-c.true)
 
 pub returns : goal.returns
 unfolding location_accept
 returns c =
-    c.refused-2.ensures ∙ answer location_accept_answer
+    c.refused-2.ensures ∙ answer (structure_answer location_accepts)
     (structure-inexact downlinks_sound group_identity_downlink_identifier _ (local_tail accept_laws.body-local) (list-behind ((goal.at.returns c).In-Ok-p)) c.args.len
     (closed ((goal.at.returns c).In-Ok-v)) c.if-c3-c.false)

@@ -1,4 +1,4 @@
--- `elements::group_identity_location_demand::GroupIdentityLocationDemand::from_bitbuf` meets its contract: by the laws of a list inside a
+-- `elements::group_identity_location_demand::GroupIdentityLocationDemandReadStructure::from_bitbuf` meets its contract: by the laws of a list inside a
 -- structure, and of a structure of a declared length.
 use Rattle.std.specs.Prelude.{ℕ, ◌≤◌, ◌<◌, List, eqb}
 use Rattle.std.proofs.Common.{arith, ◌∙◌, eq-eqb, ne_eqb}
@@ -14,12 +14,12 @@ use Rattle.elements.specs.Lists.{uplinks}
 use Rattle.elements.proofs.ListsLaws.{uplinks_sound}
 use Rattle.elements.specs.Locations.{nested, group_identity_uplink_identifier, demand_body, location_demand}
 use Rattle.elements.proofs.LocationsLaws.{demand_of, demand_laws}
-use Rattle.elements.specs.GroupAnswers.{location_demand_answer}
+use Rattle.elements.specs.GroupAnswers.{location_demands, structure_answer}
 use Rattle.elements.proofs.Verdicts.{answer, verdict_to, verdict_refused}
 use Rattle.elements.proofs.PlacedLocations.{structure-refused, structure-on, structure-whole, structure-inexact}
 use Rattle.elements.specs.declared.group_identity_location_demand.GroupIdentityLocationDemand.{GroupIdentityLocationDemand}
-use Rattle.elements.proofs.group_identity_location_demand.GroupIdentityLocationDemand.from_bitbuf.Goals as goal
-use Rattle.elements.proofs.group_identity_location_demand.GroupIdentityLocationDemand.from_bitbuf.Goals.{In-Ok-m, In-Ok-v}
+use Rattle.elements.proofs.group_identity_location_demand.GroupIdentityLocationDemandReadStructure.from_bitbuf.Goals as goal
+use Rattle.elements.proofs.group_identity_location_demand.GroupIdentityLocationDemandReadStructure.from_bitbuf.Goals.{In-Ok-m, In-Ok-v}
 
 module _ {os : List ℕ} {c c₁ : Cursor} {r : ℕ} (e : Gives (field flag_width) os c (placed r c₁)) where
   -- the reserved bit is not 0
@@ -49,25 +49,25 @@ closed c = verdict_to _ c.read_nested-r.ensures c.in-Ok-v.is
 pub returns-in_default : goal.returns-in_default
 unfolding word demand_body location_demand
 returns-in_default c =
-    c.refused.ensures ∙ answer location_demand_answer (exact-stop c.args.len (stop _ (refused_by c.read-f.ensures c.unwrap_err.ensures)))
+    c.refused.ensures ∙ answer (structure_answer location_demands) (exact-stop c.args.len (stop _ (refused_by c.read-f.ensures c.unwrap_err.ensures)))
 
 pub returns-then-reserved-gt0 : goal.returns-then-reserved-gt0
 unfolding word location_demand
 returns-then-reserved-gt0 c =
     let is_set : 0 < c.in-Ok.reserved = omega (arith, c.if-reserved-gt0.true) in
-    c.refused-then-reserved-gt0.ensures ∙ answer location_demand_answer (exact-stop c.args.len (reserved (from c.in-Ok.ensures) is_set))
+    c.refused-then-reserved-gt0.ensures ∙ answer (structure_answer location_demands) (exact-stop c.args.len (reserved (from c.in-Ok.ensures) is_set))
 
 pub returns-in_default-m : goal.returns-in_default-m
 unfolding word location_demand
 returns-in_default-m c =
     let unset : c.in-Ok.reserved ≤ 0 = omega (arith, c.if-reserved-gt0.false) in
-    c.refused-in_default-m.ensures ∙ answer location_demand_answer (exact-stop c.args.len (mode-behind (from c.in-Ok.ensures) unset _
+    c.refused-in_default-m.ensures ∙ answer (structure_answer location_demands) (exact-stop c.args.len (mode-behind (from c.in-Ok.ensures) unset _
     (stop _ (refused_by c.read-m.ensures c.unwrap_err-in_default-m.ensures))))
 
 pub returns-in_default-v : goal.returns-in_default-v
 unfolding location_demand
 returns-in_default-v c =
-    c.refused-in_default-v.ensures ∙ answer location_demand_answer
+    c.refused-in_default-v.ensures ∙ answer (structure_answer location_demands)
     (structure-refused uplinks_sound group_identity_uplink_identifier _ (local_tail demand_laws.body-local) (list-behind ((goal.at.returns-in_default-v c).In-Ok-m)) c.args.len
     (verdict_refused _ c.read_nested-r.ensures c.unwrap_err-in_default-v.ensures))
 
@@ -79,13 +79,13 @@ overflow_sub-c3 c =
 pub returns-then-c3-c : goal.returns-then-c3-c
 unfolding location_demand
 returns-then-c3-c c =
-    answer location_demand_answer
+    answer (structure_answer location_demands)
     (structure-whole uplinks_sound group_identity_uplink_identifier _ (local_tail demand_laws.body-local) (list-behind ((goal.at.returns-then-c3-c c).In-Ok-m)) c.args.len
     (closed ((goal.at.returns-then-c3-c c).In-Ok-v)) c.if-c3-c.true)
 
 pub returns : goal.returns
 unfolding location_demand
 returns c =
-    c.refused-2.ensures ∙ answer location_demand_answer
+    c.refused-2.ensures ∙ answer (structure_answer location_demands)
     (structure-inexact uplinks_sound group_identity_uplink_identifier _ (local_tail demand_laws.body-local) (list-behind ((goal.at.returns c).In-Ok-m)) c.args.len
     (closed ((goal.at.returns c).In-Ok-v)) c.if-c3-c.false)

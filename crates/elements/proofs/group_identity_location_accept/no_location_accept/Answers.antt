@@ -1,5 +1,0 @@
--- `elements::group_identity_location_accept::no_location_accept` meets its contract: an absent list of groups.
-use Rattle.elements.proofs.group_identity_location_accept.no_location_accept.Goals as goal
-
-pub returns : goal.returns
-returns c = rw c.no_list.ensures

@@ -1,5 +1,0 @@
--- `elements::group_identity_location_accept::refused` meets its contract: what is empty beside the number.
-use Rattle.elements.proofs.group_identity_location_accept.refused.Goals as goal
-
-pub returns : goal.returns
-returns c = rw c.no_location_accept.ensures

@@ -1,0 +1,5 @@
+-- `elements::group_identity_location_demand::GroupIdentityLocationDemandStructure::none` meets its contract: an absent list of groups.
+use Rattle.elements.proofs.group_identity_location_demand.GroupIdentityLocationDemandStructure.none.Goals as goal
+
+pub returns : goal.returns
+returns c = rw c.no_list.ensures
