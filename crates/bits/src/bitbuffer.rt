@@ -78,7 +78,8 @@ impl Number for u64 {
     }
 }
 
-// Where what comes next is written: from `at` up to `end`; or nowhere, behind a refusal.
+// Where what comes next is written: from `at` up to `end`; or nowhere, behind a refusal. A struct, since a `Result` has no methods of
+// ours, and each write is one.
 #[derive(Clone, Copy)]
 pub struct Place {
     pub at: usize,
@@ -93,7 +94,7 @@ pub struct Digits {
     pub width: usize,
 }
 
-// No bits; and what stands for more than 64.
+// No bits; and what stands for more than 64: a width, so that what is joined behind needs no test.
 pub const NO_DIGITS: Digits = Digits { value: 0, width: 0 };
 
 const TOO_WIDE: Digits = Digits {

@@ -11,7 +11,8 @@ use crate::typed_pdu_fields::{ask_type2, nested_size, width_if};
 use bits::bitbuffer::Digits;
 use elements::group_address::GroupAddress;
 
-// What questions 8, 10 and 11 find of a group or of a list, and the bits that it has.
+// What questions 8, 10 and 11 find of a group or of a list, and the bits that it has. How many these are at most stands in contracts,
+// and not here: a sum of parts is one of these too, and would need the bound before it is made.
 #[derive(Clone, Copy)]
 pub struct GroupsAsked {
     pub fits: bool,

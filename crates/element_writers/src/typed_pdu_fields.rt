@@ -52,7 +52,7 @@ impl Held for Option<u64> {
     }
 }
 
-// The width of what may be absent.
+// The width of what may be absent: its presence tells it, and an option would be made for it alone.
 pub fn width_if(present: bool, width: usize) -> usize
     ensures { (result ≡ cond present width 0) × (result ≤ width) }
 {

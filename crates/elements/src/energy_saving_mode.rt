@@ -1,4 +1,5 @@
 // Energy saving mode (EN 300 392-2, clause 16.10.9), 3 bits.
+// Numbers, as document 01 has them: a field and a record hold any number of its width.
 pub const STAY_ALIVE: u8 = 0;
 
 pub const EG1: u8 = 1;

@@ -4,8 +4,8 @@ ghost use Rattle.elements.specs.TraitLaws.{demands-shaped};
 
 use crate::group_identity_uplink::OptionalUplinks;
 use crate::group_list::{no_list, read_nested};
-use crate::type34_elem_id_ul::GROUP_IDENTITY_UPLINK;
 use crate::structure::{ReadStructure, Structure, refused};
+use crate::type34_elem_id_ul::GROUP_IDENTITY_UPLINK;
 use crate::typed_pdu_fields::Judged;
 use bits::bitbuffer::Cursor;
 use bits::pdu_parse_error::PduParseErr;

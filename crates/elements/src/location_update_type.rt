@@ -1,4 +1,5 @@
 // Location update type and location update accept type (EN 300 392-2, clause 16.10.35), 3 bits.
+// Numbers, as document 01 has them: a field and a record hold any number of its width.
 pub const ROAMING_LOCATION_UPDATING: u8 = 0;
 
 pub const MIGRATING_LOCATION_UPDATING: u8 = 1;

@@ -1,4 +1,5 @@
 // Type 3/4 element identifiers, downlink (EN 300 392-2, clause 16.10.51), 4 bits.
+// Numbers, as document 01 has them: a field and a record hold any number of its width.
 pub const DEFAULT_GROUP_ATTACH_LIFETIME: u8 = 1;
 
 pub const NEW_REGISTERED_AREA: u8 = 2;

@@ -424,7 +424,7 @@ fn refused(e: PduParseErr) -> Judged<Slots>
     }
 }
 
-// The rows of a table from one place up to another.
+// The rows of a table from one place up to another. A part is told by its places, since its slots stand at them in the array too.
 fn part_of(table: &[Row], from: usize, to: usize) -> &[Row]
     ensures { result.now ≡ slots_from table.now from to }
 {

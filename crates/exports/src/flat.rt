@@ -1,5 +1,6 @@
 // The flat form of a record (document 01, 'What must change shape'): a field is a presence octet and 8 octets, high first; what
-// is absent keeps its place, all zeros. Each function puts its part from `at` on and gives the place behind it.
+// is absent keeps its place, all zeros. Each function puts its part from `at` on and gives the place behind it. Presence and value
+// stay apart, as the record has them: an option would be made to be opened at once.
 ghost use Rattle.std.specs.Prelude.{ℕ, ◌≡◌, refl, cond, ◌+◌, ◌*◌, ◌≤◌, leb, List, [], ◌∷◌, length};
 ghost use Rattle.bits.specs.Bits.{bit};
 ghost use Rattle.std.proofs.lemmas.List.Edits.{sets};
@@ -187,7 +188,7 @@ fn shown_of<G>(present: bool, count: usize, groups: &[G; 63]) -> usize
     if present { count.min(63) } else { 0 }
 }
 
-// A list: its count, and its groups.
+// A list: its count, and its groups. `present` is its own presence and that of the structure around it together.
 fn put_list<G: FlatGroup>(
     flat: &mut [u8],
     at: usize,

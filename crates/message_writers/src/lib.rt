@@ -65,7 +65,7 @@ pub fn write_as<M: PduWriter>(octets: &mut [u8], c: Cursor, d: M) -> Writing
 }
 
 // A writing call: the octets lent, the window's first and end bit, the message's type number, the record. The message goes to
-// the window's front, and every other bit is kept; a refusal changes nothing.
+// the window's front, and every other bit is kept; a refusal changes nothing. The message is a number, as in a reading call.
 pub fn write(octets: &mut [u8], first: usize, end: usize, message: u64, held: Record) -> Writing
     ensures answer { result ≡ writing message octets.old first end held }
     ensures octets { octets.new ≡ octets_written message octets.old first end held }

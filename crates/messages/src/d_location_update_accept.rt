@@ -16,7 +16,9 @@ use bits::pdu_parse_error::PduParseErr;
 use elements::energy_saving_information::{
     EnergySavingInformation, OptionalEnergySavingInformation, parse_type2_energy_saving,
 };
-use elements::group_identity_location_accept::{GroupIdentityLocationAccept, OptionalLocationAccept};
+use elements::group_identity_location_accept::{
+    GroupIdentityLocationAccept, OptionalLocationAccept,
+};
 use elements::mm_pdu_type_dl::D_LOCATION_UPDATE_ACCEPT;
 use elements::structure::{Structure, read_structure_slot};
 use elements::type34_elem_id_dl::{
@@ -225,7 +227,11 @@ fn read_elements(
     let Ok(c1) = v else {
         return unread(v.unwrap_err());
     };
-    let d = read_structure_slot::<GroupIdentityLocationAccept>(c1, octets, GROUP_IDENTITY_LOCATION_ACCEPT);
+    let d = read_structure_slot::<GroupIdentityLocationAccept>(
+        c1,
+        octets,
+        GROUP_IDENTITY_LOCATION_ACCEPT,
+    );
     let w = d.verdict;
     let Ok(c2) = w else {
         return unread(w.unwrap_err());

@@ -28,7 +28,8 @@ pub struct Record {
     pub attach_detach: DAttachDetachGroupIdentity,
 }
 
-// The count skipped and the place, or the refusal; and the message's own record beside it.
+// The count skipped and the place, or the refusal; and the message's own record beside it. Apart from `Judged`: one struct for both
+// would have two parameters, and no name for the record.
 #[derive(Clone, Copy)]
 pub struct MessageRead<M> {
     pub verdict: Read<usize>,
@@ -76,7 +77,7 @@ pub struct Reading {
     pub record: Record,
 }
 
-// The answer of a writing call: the number of bits written, 0 with a refusal.
+// The answer of a writing call: the number of bits written, which document 01 has as 0 beside a refusal.
 #[derive(Clone, Copy)]
 pub struct Writing {
     pub verdict: Verdict,
@@ -182,7 +183,8 @@ fn read_as<M: Pdu>(octets: &[u8], c: Cursor, skipping: bool) -> Reading
     answered(c.at, n, c1, a.record.alone())
 }
 
-// A reading call: the octets lent, the window's first and end bit, the message's type number, the reading wanted.
+// A reading call: the octets lent, the window's first and end bit, the message's type number, the reading wanted. They are numbers, as
+// any caller can ask for any; each message goes on with a record of its own type.
 pub fn read(octets: &[u8], first: usize, end: usize, message: u64, wanted: u64) -> Reading
     ensures { result ≡ reading message wanted octets.now first end }
 {

@@ -14,7 +14,9 @@ use crate::{MessageRead, OwnRecord, Pdu, Record, unread};
 use bits::bitbuffer::{Cursor, Read};
 use bits::pdu_parse_error::PduParseErr;
 use elements::class_of_ms::{ClassOfMs, OptionalClassOfMs, parse_type2_class_of_ms};
-use elements::group_identity_location_demand::{GroupIdentityLocationDemand, OptionalLocationDemand};
+use elements::group_identity_location_demand::{
+    GroupIdentityLocationDemand, OptionalLocationDemand,
+};
 use elements::mm_pdu_type_ul::U_LOCATION_UPDATE_DEMAND;
 use elements::structure::{Structure, read_structure_slot};
 use elements::type34_elem_id_ul::{
@@ -216,7 +218,11 @@ fn read_elements(
     let Ok((n, c1)) = s else {
         return unread(s.unwrap_err());
     };
-    let d = read_structure_slot::<GroupIdentityLocationDemand>(c1, octets, GROUP_IDENTITY_LOCATION_DEMAND);
+    let d = read_structure_slot::<GroupIdentityLocationDemand>(
+        c1,
+        octets,
+        GROUP_IDENTITY_LOCATION_DEMAND,
+    );
     let w = d.verdict;
     let Ok(c2) = w else {
         return unread(w.unwrap_err());
