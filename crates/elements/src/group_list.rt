@@ -49,8 +49,7 @@ fn refused<L: GroupList>(e: PduParseErr) -> Judged<L>
 }
 
 // The slot of a list of groups, where there is such a slot: the list has to end where its length said. A list without groups is
-// given at once: an array that nothing is put into needn't be copied. The cursor is handed on number by number, as the caller just
-// stored it: copied as a whole, it would wait for both.
+// given at once: an array that nothing is put into needn't be copied.
 pub fn read_list_slot<L: GroupList>(
     c: Cursor,
     octets: &[u8],

@@ -120,9 +120,14 @@ impl PduWriter for DAttachDetachGroupIdentity {
         let h = head_of(self);
         let m = place.put(octets, front(h));
         if h.obit == 1 {
-            let p = self.proprietary;
-            let g = self.group_report_response;
-            return put_elements(m, octets, p, g, list, a.size);
+            return put_elements(
+                m,
+                octets,
+                self.proprietary,
+                self.group_report_response,
+                list,
+                a.size,
+            );
         }
         m
     }

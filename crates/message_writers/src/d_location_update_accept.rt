@@ -51,20 +51,15 @@ fn is_more(d: DLocationUpdateAccept) -> bool
 fn head_of(d: DLocationUpdateAccept) -> AcceptHead
     ensures { result ≡ accept_head_in d }
 {
-    let ssi = d.ssi;
-    let address_extension = d.address_extension;
-    let subscriber_class = d.subscriber_class;
-    let saving = d.energy_saving_information;
-    let scch = d.scch_information_and_distribution_on_18th_frame;
     AcceptHead {
         location_update_accept_type: d.location_update_accept_type,
         obit: flag(is_more(d)),
         options: AcceptOptions {
-            ssi: ssi,
-            address_extension: address_extension,
-            subscriber_class: subscriber_class,
-            energy_saving_information: saving,
-            scch_information_and_distribution_on_18th_frame: scch,
+            ssi: d.ssi,
+            address_extension: d.address_extension,
+            subscriber_class: d.subscriber_class,
+            energy_saving_information: d.energy_saving_information,
+            scch_information_and_distribution_on_18th_frame: d.scch_information_and_distribution_on_18th_frame,
         },
     }
 }
@@ -97,25 +92,19 @@ fn front(h: AcceptHead) -> Digits
 fn second_options(o: AcceptOptions) -> Digits
     ensures { Holds result (accept_second o) }
 {
-    let subscriber_class = o.subscriber_class;
-    let saving = o.energy_saving_information;
-    let scch = o.scch_information_and_distribution_on_18th_frame;
-    let k = then_type2(NO_DIGITS, subscriber_class, 16);
-    let s = then_saving(k, saving);
-    then_type2(s, scch, 6)
+    let k = then_type2(NO_DIGITS, o.subscriber_class, 16);
+    let s = then_saving(k, o.energy_saving_information);
+    then_type2(s, o.scch_information_and_distribution_on_18th_frame, 6)
 }
 
 // Question 8 of the type 2 elements; `saving` answers that of the energy saving information.
 fn options_fit(o: AcceptOptions, saving: bool) -> bool
     ensures { result ≡ all_of (accept_options_tests o saving) }
 {
-    let ssi = o.ssi;
-    let extension = o.address_extension;
-    let subscriber_class = o.subscriber_class;
-    let scch = o.scch_information_and_distribution_on_18th_frame;
-    ask_type2(ssi, 24)
-        & (ask_type2(extension, 24)
-            & (ask_type2(subscriber_class, 16) & (saving & ask_type2(scch, 6))))
+    ask_type2(o.ssi, 24)
+        & (ask_type2(o.address_extension, 24)
+            & (ask_type2(o.subscriber_class, 16)
+                & (saving & ask_type2(o.scch_information_and_distribution_on_18th_frame, 6))))
 }
 
 // The bits of the type 2 elements.
@@ -140,13 +129,10 @@ pub struct AcceptRest {
 fn rest_of(d: DLocationUpdateAccept) -> AcceptRest
     ensures { result ≡ accept_rest_in d }
 {
-    let area = d.new_registered_area;
-    let security = d.security_downlink;
-    let related = d.group_identity_security_related_information;
     AcceptRest {
-        new_registered_area: area,
-        security_downlink: security,
-        group_identity_security_related_information: related,
+        new_registered_area: d.new_registered_area,
+        security_downlink: d.security_downlink,
+        group_identity_security_related_information: d.group_identity_security_related_information,
     }
 }
 
@@ -162,27 +148,25 @@ fn ask(
     ensures { (d : DLocationUpdateAccept) → AcceptIs d h rest located location g.now → Answered (accept_asked d) (accept_bits d) result }
 {
     let generics = ask_generics(g);
-    let options = h.options;
-    let energy = options.energy_saving_information;
-    let saving = ask_saving(energy);
-    let area = rest.new_registered_area;
-    let security = rest.security_downlink;
-    let related = rest.group_identity_security_related_information;
-    let elements = type3_size(security)
+    let saving = ask_saving(h.options.energy_saving_information);
+    let elements = type3_size(rest.security_downlink)
         + (width_if(located, 16 + location.content) + (generics.size + 1));
-    let behind = options_size(options) + elements;
+    let behind = options_size(h.options) + elements;
     Answers {
         fits: within(h.location_update_accept_type as u64, 3)
-            & (options_fit(options, saving.fits)
-                & (type4_fits(area)
-                    & (type3_fits(security)
-                        & (location.fits & (type4_fits(related) & generics.fits))))),
+            & (options_fit(h.options, saving.fits)
+                & (type4_fits(rest.new_registered_area)
+                    & (type3_fits(rest.security_downlink)
+                        & (location.fits
+                            & (type4_fits(rest.group_identity_security_related_information)
+                                & generics.fits))))),
         ciphered: true,
         attached: location.one,
         formed: location.listed,
         alive: saving.alive,
         saving: saving.saving,
-        type3_only: !area.present & !related.present,
+        type3_only: !rest.new_registered_area.present
+            & !rest.group_identity_security_related_information.present,
         short: location.short,
         size: 8 + width_if(h.obit == 1, behind),
     }
@@ -201,9 +185,7 @@ fn put_behind(
     requires { AcceptGenerics security g.now }
     ensures { Puts (accept_behind o security asked.list asked.content location g.now) (written octets.old (as_place m)) (written octets.new (as_place result)) }
 {
-    let ssi = o.ssi;
-    let extension = o.address_extension;
-    let m1 = m.put(octets, addresses(ssi, extension));
+    let m1 = m.put(octets, addresses(o.ssi, o.address_extension));
     let m2 = m1.put(octets, second_options(o));
     let m3 = write_type3_generic(m2, octets, SECURITY_DOWNLINK, security);
     let m4 = write_location_accept(m3, octets, location, asked.list, asked.content);
@@ -224,9 +206,15 @@ impl PduWriter for DLocationUpdateAccept {
         };
         let m = place.put(octets, front(h));
         if h.obit == 1 {
-            let options = h.options;
-            let security = rest.security_downlink;
-            return put_behind(m, octets, options, security, location, asked, &g);
+            return put_behind(
+                m,
+                octets,
+                h.options,
+                rest.security_downlink,
+                location,
+                asked,
+                &g,
+            );
         }
         m
     }

@@ -43,23 +43,17 @@ fn is_more(d: ULocationUpdateDemand) -> bool
 fn head_of(d: ULocationUpdateDemand) -> DemandHead
     ensures { result ≡ demand_head_in d }
 {
-    let ciphering = d.ciphering_parameters;
-    let class_of_ms = d.class_of_ms;
-    let energy_saving_mode = d.energy_saving_mode;
-    let la_information = d.la_information;
-    let ssi = d.ssi;
-    let address_extension = d.address_extension;
     DemandHead {
         location_update_type: d.location_update_type,
         request_to_append_la: d.request_to_append_la,
         cipher_control: d.cipher_control,
-        ciphering_parameters: ciphering,
+        ciphering_parameters: d.ciphering_parameters,
         options: DemandOptions {
-            class_of_ms: class_of_ms,
-            energy_saving_mode: energy_saving_mode,
-            la_information: la_information,
-            ssi: ssi,
-            address_extension: address_extension,
+            class_of_ms: d.class_of_ms,
+            energy_saving_mode: d.energy_saving_mode,
+            la_information: d.la_information,
+            ssi: d.ssi,
+            address_extension: d.address_extension,
         },
         obit: flag(is_more(d)),
     }
@@ -81,12 +75,11 @@ fn generics_of(d: ULocationUpdateDemand) -> Generics
 fn front(h: DemandHead) -> Digits
     ensures { Holds result (demand_front h) }
 {
-    let ciphering = h.ciphering_parameters;
     let t = NO_DIGITS.then(U_LOCATION_UPDATE_DEMAND as u64, 4);
     let u = t.then(h.location_update_type as u64, 3);
     let a = u.then(h.request_to_append_la as u64, 1);
     let c = a.then(h.cipher_control as u64, 1);
-    let p = then_if(c, ciphering, 10);
+    let p = then_if(c, h.ciphering_parameters, 10);
     p.then(h.obit as u64, 1)
 }
 
@@ -94,36 +87,28 @@ fn front(h: DemandHead) -> Digits
 fn first_options(o: DemandOptions) -> Digits
     ensures { Holds result (demand_first o) }
 {
-    let class_of_ms = o.class_of_ms;
-    let mode = o.energy_saving_mode;
-    let la = o.la_information;
-    let k = type2_class(class_of_ms);
-    let m = then_type2(k, mode, 3);
-    let l = then_type2(m, la, 14);
-    then_if(l, la.present.then_some(0u64), 1)
+    let k = type2_class(o.class_of_ms);
+    let m = then_type2(k, o.energy_saving_mode, 3);
+    let l = then_type2(m, o.la_information, 14);
+    then_if(l, o.la_information.present.then_some(0u64), 1)
 }
 
 // Question 8.
 fn head_fits(h: DemandHead) -> bool
     ensures { result ≡ all_of (demand_head_tests h) }
 {
-    let ciphering = h.ciphering_parameters;
     within(h.location_update_type as u64, 3)
         & (within(h.request_to_append_la as u64, 1)
-            & (within(h.cipher_control as u64, 1) & ask_type2(ciphering, 10)))
+            & (within(h.cipher_control as u64, 1) & ask_type2(h.ciphering_parameters, 10)))
 }
 
 fn options_fit(o: DemandOptions) -> bool
     ensures { result ≡ all_of (demand_options_tests o) }
 {
-    let class_of_ms = o.class_of_ms;
-    let mode = o.energy_saving_mode;
-    let la = o.la_information;
-    let ssi = o.ssi;
-    let extension = o.address_extension;
-    class_fits(class_of_ms)
-        & (ask_type2(mode, 3)
-            & (ask_type2(la, 14) & (ask_type2(ssi, 24) & ask_type2(extension, 24))))
+    class_fits(o.class_of_ms)
+        & (ask_type2(o.energy_saving_mode, 3)
+            & (ask_type2(o.la_information, 14)
+                & (ask_type2(o.ssi, 24) & ask_type2(o.address_extension, 24))))
 }
 
 // The bits of the type 2 elements.
@@ -142,20 +127,18 @@ fn ask(h: DemandHead, located: bool, location: LocationAsked, g: &Generics) -> A
     ensures { (d : ULocationUpdateDemand) → DemandIs d h located location g.now → Answered (demand_asked d) (demand_bits d) result }
 {
     let generics = ask_generics(g);
-    let options = h.options;
-    let ciphering = h.ciphering_parameters;
     let elements = width_if(located, 16 + location.content) + (generics.size + 1);
-    let behind = options_size(options) + elements;
+    let behind = options_size(h.options) + elements;
     Answers {
-        fits: head_fits(h) & (options_fit(options) & (location.fits & generics.fits)),
-        ciphered: ciphering.present == (h.cipher_control == 1),
+        fits: head_fits(h) & (options_fit(h.options) & (location.fits & generics.fits)),
+        ciphered: h.ciphering_parameters.present == (h.cipher_control == 1),
         attached: location.one,
         formed: location.listed,
         alive: true,
         saving: true,
         type3_only: true,
         short: location.short,
-        size: 10 + (width_if(ciphering.present, 10) + width_if(h.obit == 1, behind)),
+        size: 10 + (width_if(h.ciphering_parameters.present, 10) + width_if(h.obit == 1, behind)),
     }
 }
 
@@ -163,10 +146,8 @@ fn ask(h: DemandHead, located: bool, location: LocationAsked, g: &Generics) -> A
 fn put_options(m: Place, octets: &mut [u8], o: DemandOptions) -> Place
     ensures { Puts (demand_options_parts o) (written octets.old (as_place m)) (written octets.new (as_place result)) }
 {
-    let ssi = o.ssi;
-    let extension = o.address_extension;
     let m1 = m.put(octets, first_options(o));
-    m1.put(octets, addresses(ssi, extension))
+    m1.put(octets, addresses(o.ssi, o.address_extension))
 }
 
 // The whole message, with a location demand.
@@ -181,9 +162,8 @@ fn put_located(
     requires { (generics_asked g.now).fits ≡ true }
     ensures { Puts (demand_front h ∷ demand_behind h.options asked.list asked.content location g.now) (written octets.old (as_place m)) (written octets.new (as_place result)) }
 {
-    let options = h.options;
     let m1 = m.put(octets, front(h));
-    let m2 = put_options(m1, octets, options);
+    let m2 = put_options(m1, octets, h.options);
     let m3 = write_location_demand(m2, octets, location, asked.list, asked.content);
     write_generics(m3, octets, g)
 }
@@ -193,9 +173,8 @@ fn put_unlocated(m: Place, octets: &mut [u8], h: DemandHead, g: &Generics) -> Pl
     requires { (generics_asked g.now).fits ≡ true }
     ensures { Puts (demand_front h ∷ (demand_options_parts h.options ++ generics_parts g.now)) (written octets.old (as_place m)) (written octets.new (as_place result)) }
 {
-    let options = h.options;
     let m1 = m.put(octets, front(h));
-    let m2 = put_options(m1, octets, options);
+    let m2 = put_options(m1, octets, h.options);
     write_generics(m2, octets, g)
 }
 
@@ -222,17 +201,16 @@ fn write_more(d: ULocationUpdateDemand, h: DemandHead, c: Cursor, octets: &mut [
 fn write_alone(h: DemandHead, c: Cursor, octets: &mut [u8]) -> Place
     ensures { (d : ULocationUpdateDemand) → h ≡ demand_head_in d → demand_more d ≡ false → written octets.new (as_place result) ≡ write_message (demand_asked d) (demand_bits d) octets.old c }
 {
-    let ciphering = h.ciphering_parameters;
     let answers = Answers {
         fits: head_fits(h),
-        ciphered: ciphering.present == (h.cipher_control == 1),
+        ciphered: h.ciphering_parameters.present == (h.cipher_control == 1),
         attached: true,
         formed: true,
         alive: true,
         saving: true,
         type3_only: true,
         short: true,
-        size: 10 + width_if(ciphering.present, 10),
+        size: 10 + width_if(h.ciphering_parameters.present, 10),
     };
     let place = answers.start(c, octets.len());
     let None = place.halt else {

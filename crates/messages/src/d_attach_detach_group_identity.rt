@@ -136,8 +136,7 @@ impl Pdu for DAttachDetachGroupIdentity {
 
     const TYPE: u64 = crate::ATTACH_DETACH;
 
-    // The message: its head, and behind an O-bit of 1 its listed elements, if there are any. The octets are taken anew: what was
-    // stored just before a call, piece by piece, is slow to copy as a whole.
+    // The message: its head, and behind an O-bit of 1 its listed elements, if there are any.
     fn from_bitbuf(
         c: Cursor,
         octets: &[u8],

@@ -153,19 +153,15 @@ fn record_of(
 ) -> DLocationUpdateAccept
     ensures { result ≡ accept_from head location before behind }
 {
-    let options = head.options;
-    let ssi = options.ssi;
-    let address_extension = options.address_extension;
-    let subscriber_class = options.subscriber_class;
-    let saving = options.energy_saving_information;
-    let scch = options.scch_information_and_distribution_on_18th_frame;
     DLocationUpdateAccept {
         location_update_accept_type: head.location_update_accept_type,
-        ssi: ssi,
-        address_extension: address_extension,
-        subscriber_class: subscriber_class,
-        energy_saving_information: saving,
-        scch_information_and_distribution_on_18th_frame: scch,
+        ssi: head.options.ssi,
+        address_extension: head.options.address_extension,
+        subscriber_class: head.options.subscriber_class,
+        energy_saving_information: head.options.energy_saving_information,
+        scch_information_and_distribution_on_18th_frame: head
+            .options
+            .scch_information_and_distribution_on_18th_frame,
         new_registered_area: before[0].into(),
         security_downlink: before[1].into(),
         group_identity_location_accept: location,

@@ -153,26 +153,16 @@ fn record_of(
 ) -> ULocationUpdateDemand
     ensures { result ≡ demand_from head location generics }
 {
-    let ciphering = head.ciphering_parameters;
-    let options = head.options;
-    let class_of_ms = options.class_of_ms;
-    let energy_saving_mode = options.energy_saving_mode;
-    let la_information = options.la_information;
-    let ssi = options.ssi;
-    let address_extension = options.address_extension;
     ULocationUpdateDemand {
         location_update_type: head.location_update_type,
         request_to_append_la: head.request_to_append_la,
         cipher_control: head.cipher_control,
-        ciphering_parameters: OptionalU64 {
-            present: ciphering.present,
-            value: ciphering.value,
-        },
-        class_of_ms: class_of_ms,
-        energy_saving_mode: energy_saving_mode,
-        la_information: la_information,
-        ssi: ssi,
-        address_extension: address_extension,
+        ciphering_parameters: head.ciphering_parameters,
+        class_of_ms: head.options.class_of_ms,
+        energy_saving_mode: head.options.energy_saving_mode,
+        la_information: head.options.la_information,
+        ssi: head.options.ssi,
+        address_extension: head.options.address_extension,
         group_identity_location_demand: location,
         group_report_response: generics[1].into(),
         authentication_uplink: generics[2].into(),
