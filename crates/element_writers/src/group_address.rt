@@ -12,7 +12,7 @@ use bits::bitbuffer::Digits;
 use elements::group_address::GroupAddress;
 
 // What questions 8, 10 and 11 find of a group or of a list, and the bits that it has. How many these are at most stands in contracts,
-// and not here: a sum of parts is one of these too, and would need the bound before it is made.
+// and not in a ghost field: the definitions make such records too, and would have to prove it in each.
 #[derive(Clone, Copy)]
 pub struct GroupsAsked {
     pub fits: bool,

@@ -79,10 +79,7 @@ pub fn parse_type2_energy_saving(c: Cursor, octets: &[u8]) -> Read<Option<Energy
 {
     let (p, c1) = c.read::<u8>(octets, 1)?;
     if p == 1 {
-        let s = EnergySavingInformation::from_bitbuf(c1, octets);
-        let Ok((saving, c2)) = s else {
-            return Err(s.unwrap_err());
-        };
+        let (saving, c2) = EnergySavingInformation::from_bitbuf(c1, octets)?;
         return Ok((Some(saving), c2));
     }
     Ok((None, c1))

@@ -14,7 +14,8 @@ ghost use Rattle.elements.specs.Fronts.{slot_front, list_front};
 use bits::bitbuffer::{Cursor, Moved, Number, Read};
 use bits::pdu_parse_error::PduParseErr;
 
-// What may be absent is presence and value in a record, since records go to C, which takes no enum; what is absent holds zero.
+// What may be absent is presence and value in a record: exported functions of `measure` take records and hand them back, by value, and C
+// takes no enum and no type argument. What is absent holds zero.
 #[repr(C)]
 #[derive(Clone, Copy)]
 pub struct OptionalU8 {
@@ -392,7 +393,7 @@ pub struct Slots {
 
 const NO_SLOTS: Slots = Slots {
     skipped: 0,
-    generics: [ABSENT; 8],
+    generics: NO_GENERICS,
 };
 
 // The end of a table: unlisted elements where they are skipped, and the closing M-bit.
@@ -508,13 +509,11 @@ pub fn scan_part(
                 value: NO_SLOTS,
             };
         }
-    } else {
-        if is_elsewhere(c, octets, table, slots) {
-            return Judged {
-                verdict: Ok(c),
-                value: NO_SLOTS,
-            };
-        }
+    } else if is_elsewhere(c, octets, table, slots) {
+        return Judged {
+            verdict: Ok(c),
+            value: NO_SLOTS,
+        };
     }
     scan_slots(c, octets, table, slots, from, last, wanted)
 }

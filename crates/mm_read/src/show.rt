@@ -1,5 +1,5 @@
 // What is printed: a heading, and below it a line `name: value` for each field, deeper ones further in.
-// What a record may lack is there a flag beside a value, as the C interface needs it.
+// What a record may lack is there a flag beside a value, as the records are that the benchmark hands to C.
 ghost use Rattle.std.specs.Prelude.{◌≤◌};
 
 use crate::call::{Call, Fault};

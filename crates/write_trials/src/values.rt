@@ -1,5 +1,5 @@
-// What the records hold: generic elements, groups and lists of groups. Each optional value has a type of its own, as it crosses
-// the C interface, so there is a function for each.
+// What the records hold: generic elements, groups and lists of groups. Each optional value has a type of its own, as the records that
+// the benchmark hands to C, so there is a function for each.
 use elements::class_of_ms::{ClassOfMs, no_class_of_ms};
 use elements::energy_saving_information::{
     EnergySavingInformation, OptionalEnergySavingInformation,
