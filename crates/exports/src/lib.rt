@@ -50,7 +50,7 @@ fn read_call(message: u64, wanted: u64, octets: &[u8], c: Cursor, flat: &mut [u8
     ensures result { numbered result ≡ read_result (message_of message) (reading message wanted octets.now c.at c.end) flat.old }
     ensures buffer { flat.new ≡ read_buffer (message_of message) (reading message wanted octets.now c.at c.end) flat.old }
 {
-    if is_good_call(octets.len(), c.at, c.end, message, wanted) {
+    if is_good_call(octets.len(), c, message, wanted) {
         let skipping = wanted == SKIPPING;
         return match message_named(message) {
             Some(Message::Demand) => {
@@ -92,7 +92,7 @@ fn rewrite<M: PduWriter>(octets: &[u8], c: Cursor, out: &mut [u8], to: Cursor) -
     ensures result { numbered result ≡ rewrite_result M.TYPE octets.now c.at c.end out.old to.at to.end }
     ensures octets { out.new ≡ rewrite_octets M.TYPE octets.now c.at c.end out.old to.at to.end }
 {
-    if is_good_call(octets.len(), c.at, c.end, M::TYPE, STRICT) {
+    if is_good_call(octets.len(), c, M::TYPE, STRICT) {
         let a = M::from_bitbuf(c, octets, false);
         a.verdict?;
         let w = write_as(out, to, a.record);

@@ -58,7 +58,7 @@ pub fn write_as<M: PduWriter>(octets: &mut [u8], c: Cursor, d: M) -> Writing
     ensures answer { result ≡ writing M.TYPE octets.old c.at c.end (M.of d) }
     ensures octets { octets.new ≡ octets_written M.TYPE octets.old c.at c.end (M.of d) }
 {
-    if is_good_call(octets.len(), c.at, c.end, M::TYPE, STRICT) {
+    if is_good_call(octets.len(), c, M::TYPE, STRICT) {
         return answered(c.at, d.to_bitbuf(c, octets));
     }
     refused()

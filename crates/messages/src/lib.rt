@@ -119,27 +119,17 @@ pub fn message_named(number: u64) -> Option<Message>
 }
 
 // Whether the octets are few enough and the window lies inside them.
-fn is_good_window(octets: usize, first: usize, end: usize) -> bool
-    ensures { result ≡ good_window octets first end }
+fn is_good_window(octets: usize, c: Cursor) -> bool
+    ensures { result ≡ good_window octets c.at c.end }
 {
-    if octets <= OCTETS_MOST {
-        if first <= end {
-            return end <= 8 * octets;
-        }
-    }
-    false
+    octets <= OCTETS_MOST && c.at <= c.end && c.end <= 8 * octets
 }
 
 // Question 1.
-pub fn is_good_call(octets: usize, first: usize, end: usize, message: u64, wanted: u64) -> bool
-    ensures { result ≡ good_call message wanted octets first end }
+pub fn is_good_call(octets: usize, c: Cursor, message: u64, wanted: u64) -> bool
+    ensures { result ≡ good_call message wanted octets c.at c.end }
 {
-    if message_named(message).is_some() {
-        if wanted <= SKIPPING {
-            return is_good_window(octets, first, end);
-        }
-    }
-    false
+    message_named(message).is_some() && wanted <= SKIPPING && is_good_window(octets, c)
 }
 
 // A message that is refused.
@@ -174,7 +164,7 @@ fn answered(first: usize, skipped: usize, c: Cursor, held: Record) -> Reading
         verdict: Ok(()),
         place: c.at,
         consumed: c.at - first,
-        skipped: skipped,
+        skipped,
         record: held,
     }
 }
@@ -196,8 +186,8 @@ fn read_as<M: Pdu>(octets: &[u8], c: Cursor, skipping: bool) -> Reading
 pub fn read(octets: &[u8], first: usize, end: usize, message: u64, wanted: u64) -> Reading
     ensures { result ≡ reading message wanted octets.now first end }
 {
-    if is_good_call(octets.len(), first, end, message, wanted) {
-        let c = Cursor { at: first, end };
+    let c = Cursor { at: first, end };
+    if is_good_call(octets.len(), c, message, wanted) {
         let skipping = wanted == SKIPPING;
         return match message_named(message) {
             Some(Message::Demand) => read_as::<ULocationUpdateDemand>(octets, c, skipping),
