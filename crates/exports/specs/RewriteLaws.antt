@@ -1,5 +1,5 @@
 -- Laws of rewriting: what a reading that was taken or refused makes of it.
-use Rattle.std.specs.Prelude.{ℕ, ◌-◌, ◌*◌, ◌≤◌, ◌≡◌, refl, Bool, true, false, cond, ◌&&◌, List, length, eqb, Option, None, Some, Ok, Err}
+use Rattle.std.specs.Prelude.{ℕ, ◌-◌, ◌*◌, ◌≤◌, ◌≡◌, refl, Bool, true, false, cond, ◌&&◌, List, length, Option, None, Some, Ok, Err}
 use Rattle.std.proofs.Common.{arith}
 use Rattle.bits.specs.PduParseError.{number_of, bad_call}
 use Rattle.bits.specs.Placed.{at}
@@ -7,7 +7,6 @@ use Rattle.bits.specs.declared.bitbuffer.Cursor.{Cursor}
 use Rattle.bits.specs.declared.pdu_parse_error.PduParseErr.{PduParseErr}
 use Rattle.messages.specs.MessageAnswers.{Own, message_answer}
 use Rattle.messages.specs.declared.MessageRead.{MessageRead}
-use Rattle.messages.specs.Head.{u_location_update_demand_type, d_location_update_accept_type, d_attach_detach_group_identity_type}
 use Rattle.messages.specs.Calls.{message_of, read_message, known, octets_most, good_window, good_call, message_bits, message_asked, no_reading, reading, writing_refusal, writing, writing_of, octets_written}
 use Rattle.messages.proofs.PlacedCalls.{call_taken, call_refused, bad_call_lem, good_window_lem}
 use Rattle.messages.specs.Questions.{first_no}
@@ -40,9 +39,9 @@ module _ (m : ℕ) (os : List ℕ) (first end : ℕ) (out : List ℕ) (outFirst 
   rewrite_bad g = no_reading_lem (bad_call_lem m 0 os first end g)
 
   -- a message that is none of the three
-  pub rewrite_unknown : eqb m u_location_update_demand_type ≡ false → eqb m d_location_update_accept_type ≡ false → eqb m d_attach_detach_group_identity_type ≡ false → Rewritten (number_of bad_call) out
-  unfolding good_call known
-  rewrite_unknown d a t = rewrite_bad (rw (d, a, t))
+  pub rewrite_unknown : known m ≡ false → Rewritten (number_of bad_call) out
+  unfolding good_call
+  rewrite_unknown k = rewrite_bad (rw k)
 
 -- a writing's result, by its verdict
 pub written-refused : (w : Writing) {e : PduParseErr} → w.verdict ≡ Err e → number_of e ≡ writing_result w

@@ -16,7 +16,7 @@ use message_writers::{PduWriter, write_as};
 use messages::d_attach_detach_group_identity::DAttachDetachGroupIdentity;
 use messages::d_location_update_accept::DLocationUpdateAccept;
 use messages::u_location_update_demand::ULocationUpdateDemand;
-use messages::{ACCEPT, ATTACH_DETACH, DEMAND, SKIPPING, STRICT, is_good_call};
+use messages::{Message, SKIPPING, STRICT, is_good_call, message_named};
 
 // A call's answer: 64 × the bits consumed or written, or the refusal.
 type Bits = Result<u64, PduParseErr>;
@@ -50,15 +50,20 @@ fn read_call(message: u64, wanted: u64, octets: &[u8], c: Cursor, flat: &mut [u8
     ensures result { numbered result ≡ read_result (message_of message) (reading message wanted octets.now c.at c.end) flat.old }
     ensures buffer { flat.new ≡ read_buffer (message_of message) (reading message wanted octets.now c.at c.end) flat.old }
 {
-    if is_good_call(octets.len(), c.at, c.end, message, wanted) {
+    if is_good_call(octets.len(), c, message, wanted) {
         let skipping = wanted == SKIPPING;
-        if message == DEMAND {
-            return read_into::<ULocationUpdateDemand>(octets, c, skipping, flat);
-        }
-        if message == ACCEPT {
-            return read_into::<DLocationUpdateAccept>(octets, c, skipping, flat);
-        }
-        return read_into::<DAttachDetachGroupIdentity>(octets, c, skipping, flat);
+        return match message_named(message) {
+            Some(Message::Demand) => {
+                read_into::<ULocationUpdateDemand>(octets, c, skipping, flat)
+            }
+            Some(Message::Accept) => {
+                read_into::<DLocationUpdateAccept>(octets, c, skipping, flat)
+            }
+            Some(Message::AttachDetach) => {
+                read_into::<DAttachDetachGroupIdentity>(octets, c, skipping, flat)
+            }
+            None => Err(PduParseErr::BadCall),
+        };
     }
     Err(PduParseErr::BadCall)
 }
@@ -87,7 +92,7 @@ fn rewrite<M: PduWriter>(octets: &[u8], c: Cursor, out: &mut [u8], to: Cursor) -
     ensures result { numbered result ≡ rewrite_result M.TYPE octets.now c.at c.end out.old to.at to.end }
     ensures octets { out.new ≡ rewrite_octets M.TYPE octets.now c.at c.end out.old to.at to.end }
 {
-    if is_good_call(octets.len(), c.at, c.end, M::TYPE, STRICT) {
+    if is_good_call(octets.len(), c, M::TYPE, STRICT) {
         let a = M::from_bitbuf(c, octets, false);
         a.verdict?;
         let w = write_as(out, to, a.record);
@@ -102,16 +107,12 @@ fn rewrite_call(message: u64, octets: &[u8], c: Cursor, out: &mut [u8], to: Curs
     ensures result { numbered result ≡ rewrite_result message octets.now c.at c.end out.old to.at to.end }
     ensures octets { out.new ≡ rewrite_octets message octets.now c.at c.end out.old to.at to.end }
 {
-    if message == DEMAND {
-        return rewrite::<ULocationUpdateDemand>(octets, c, out, to);
+    match message_named(message) {
+        Some(Message::Demand) => rewrite::<ULocationUpdateDemand>(octets, c, out, to),
+        Some(Message::Accept) => rewrite::<DLocationUpdateAccept>(octets, c, out, to),
+        Some(Message::AttachDetach) => rewrite::<DAttachDetachGroupIdentity>(octets, c, out, to),
+        None => Err(PduParseErr::BadCall),
     }
-    if message == ACCEPT {
-        return rewrite::<DLocationUpdateAccept>(octets, c, out, to);
-    }
-    if message == ATTACH_DETACH {
-        return rewrite::<DAttachDetachGroupIdentity>(octets, c, out, to);
-    }
-    Err(PduParseErr::BadCall)
 }
 
 // A rewriting: the strict reading in one window, and its record written to a second; 64 × the bits written, plus the number of

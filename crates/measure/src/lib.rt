@@ -54,7 +54,7 @@ pub extern "C" fn measure_write(
 fn measured<M: Pdu>(octets: &[u8], c: Cursor, wanted: u64) -> u64
     ensures { result ≡ consumed_and_refusal (reading M.TYPE wanted octets.now c.at c.end) }
 {
-    if is_good_call(octets.len(), c.at, c.end, M::TYPE, wanted) {
+    if is_good_call(octets.len(), c, M::TYPE, wanted) {
         let a = M::from_bitbuf(c, octets, wanted == SKIPPING);
         return match a.verdict {
             Ok((_, c1)) => 64 * (c1.at - c.at) as u64,

@@ -1,7 +1,7 @@
 -- A message written at the front of a window, and the answer of the writing call.
 use Prim.Native.Nat.{ℕ, ◌+◌, ◌-◌, ◌≤◌}
 use native.Mathlib.Omega.{arith}
-use Rattle.std.specs.Prelude.{◌≡◌, true, false, List, eqb}
+use Rattle.std.specs.Prelude.{◌≡◌, true, false, List}
 use Rattle.std.proofs.Math.Path.{refl}
 use Rattle.std.proofs.Common.{◌∙◌}
 use Rattle.std.proofs.Math.ListN.{length}
@@ -11,7 +11,6 @@ use Rattle.bits.specs.Placed.{Placed, placed, halted, left}
 use Rattle.bits.specs.Written.{Written, put_bits}
 use Rattle.bits.specs.WrittenLaws.{write-there}
 use Rattle.bits.specs.declared.bitbuffer.Cursor.{Cursor}
-use Rattle.messages.specs.Head.{u_location_update_demand_type, d_location_update_accept_type, d_attach_detach_group_identity_type}
 use Rattle.messages.specs.Questions.{Asked, first_no}
 use Rattle.messages.specs.Calls.{message_of, known, good_call, message_bits, message_asked, writing_refusal, writing_of, writing, octets_written}
 use Rattle.messages.proofs.PlacedCalls.{good_window_lem}
@@ -85,7 +84,6 @@ module _ (m : ℕ) (os : List ℕ) (first end : ℕ) (r : Record) where
   bad_write g = (rw g, rw g)
 
   -- a message that is none of the three
-  pub unknown_write : eqb m u_location_update_demand_type ≡ false → eqb m d_location_update_accept_type ≡ false → eqb m d_attach_detach_group_identity_type ≡ false
-      → (writing_of (Some bad_call) 0 ≡ writing m os first end r) × (os ≡ octets_written m os first end r)
-  unfolding writing octets_written writing_refusal known
-  unknown_write d a t = (rw (d, a, t), rw (d, a, t))
+  pub unknown_write : known m ≡ false → (writing_of (Some bad_call) 0 ≡ writing m os first end r) × (os ≡ octets_written m os first end r)
+  unfolding writing octets_written writing_refusal
+  unknown_write k = (rw k, rw k)

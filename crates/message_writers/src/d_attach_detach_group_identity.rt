@@ -10,7 +10,6 @@ ghost use Rattle.message_writers.specs.Writes.{write_message, Answered};
 ghost use Rattle.message_writers.specs.AttachDetachParts.{attach_detach_head_in, attach_detach_front, attach_detach_generics, attach_detach_elements, GenericsFit};
 
 use crate::PduWriter;
-use crate::parts::flag;
 use crate::questions::Answers;
 use bits::bitbuffer::{Cursor, Digits, NO_DIGITS, Place, within};
 use element_writers::group_address::GroupsAsked;
@@ -37,7 +36,7 @@ fn head_of(d: DAttachDetachGroupIdentity) -> AttachDetachHead
         group_identity_report: d.group_identity_report,
         group_identity_acknowledgement_request: d.group_identity_acknowledgement_request,
         group_identity_attach_detach_mode: d.group_identity_attach_detach_mode,
-        obit: flag(more),
+        obit: more as u8,
     }
 }
 
@@ -52,16 +51,15 @@ fn front(h: AttachDetachHead) -> Digits
     m.then(h.obit as u64, 1)
 }
 
-// The questions, of the whole record; `list` answers those of its list.
-fn ask(d: DAttachDetachGroupIdentity, list: GroupsAsked) -> Answers
-    requires { (list ≡ asked_list downlinks d.group_identity_downlink) × (list.size ≤ 5172) }
+// The questions, of the whole record, whose head is `h`; `list` answers those of its list.
+fn ask(d: DAttachDetachGroupIdentity, h: AttachDetachHead, list: GroupsAsked) -> Answers
+    requires { (h ≡ attach_detach_head_in d) × (list ≡ asked_list downlinks d.group_identity_downlink) × (list.size ≤ 5172) }
     ensures { Answered (attach_detach_asked d) (attach_detach_bits d) result }
 {
     let p = d.proprietary;
     let g = d.group_report_response;
     let s = d.group_identity_security_related_information;
     let listed = d.group_identity_downlink.present;
-    let more = p.present | (g.present | (listed | s.present));
     let elements = type3_size(p) + (type3_size(g) + (width_if(listed, 16 + list.size) + 1));
     Answers {
         fits: within(d.group_identity_report as u64, 1)
@@ -75,7 +73,7 @@ fn ask(d: DAttachDetachGroupIdentity, list: GroupsAsked) -> Answers
         saving: true,
         type3_only: !s.present,
         short: list.size < 0x800,
-        size: 8 + width_if(more, elements),
+        size: 8 + width_if(h.obit == 1, elements),
     }
 }
 
@@ -112,12 +110,12 @@ impl PduWriter for DAttachDetachGroupIdentity {
     fn to_bitbuf(self, c: Cursor, octets: &mut [u8]) -> Place {
         let list = self.group_identity_downlink;
         let a = ask_list(&list);
-        let answers = ask(self, a);
+        let h = head_of(self);
+        let answers = ask(self, h, a);
         let place = answers.start(c, octets.len());
         let None = place.halt else {
             return place;
         };
-        let h = head_of(self);
         let m = place.put(octets, front(h));
         if h.obit == 1 {
             return put_elements(

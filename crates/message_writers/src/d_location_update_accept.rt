@@ -10,7 +10,7 @@ ghost use Rattle.message_writers.specs.Writes.{write_message, Answered};
 ghost use Rattle.message_writers.specs.AcceptParts.{accept_head_in, accept_generics_in, accept_front, accept_second, accept_options_tests, accept_options_size, accept_behind, accept_rest_in, AcceptGenerics, AcceptIs};
 
 use crate::PduWriter;
-use crate::parts::{Generics, addresses, ask_generics, flag, write_generics};
+use crate::parts::{Generics, addresses, ask_generics, write_generics};
 use crate::questions::Answers;
 use bits::bitbuffer::{Cursor, Digits, NO_DIGITS, Place, within};
 use element_writers::energy_saving_information::{ask_saving, then_saving};
@@ -53,7 +53,7 @@ fn head_of(d: DLocationUpdateAccept) -> AcceptHead
 {
     AcceptHead {
         location_update_accept_type: d.location_update_accept_type,
-        obit: flag(is_more(d)),
+        obit: is_more(d) as u8,
         options: AcceptOptions {
             ssi: d.ssi,
             address_extension: d.address_extension,

@@ -17,7 +17,7 @@ ghost use Rattle.message_writers.specs.CallsLaws.{Behind, writing_by};
 
 use bits::bitbuffer::{Cursor, Place};
 use bits::pdu_parse_error::PduParseErr;
-use messages::{ACCEPT, ATTACH_DETACH, DEMAND, Pdu, Record, STRICT, Writing, is_good_call};
+use messages::{Message, Pdu, Record, STRICT, Writing, is_good_call, message_named};
 
 // A message that can be written.
 pub trait PduWriter: Pdu {
@@ -58,7 +58,7 @@ pub fn write_as<M: PduWriter>(octets: &mut [u8], c: Cursor, d: M) -> Writing
     ensures answer { result ≡ writing M.TYPE octets.old c.at c.end (M.of d) }
     ensures octets { octets.new ≡ octets_written M.TYPE octets.old c.at c.end (M.of d) }
 {
-    if is_good_call(octets.len(), c.at, c.end, M::TYPE, STRICT) {
+    if is_good_call(octets.len(), c, M::TYPE, STRICT) {
         return answered(c.at, d.to_bitbuf(c, octets));
     }
     refused()
@@ -71,14 +71,10 @@ pub fn write(octets: &mut [u8], first: usize, end: usize, message: u64, held: Re
     ensures octets { octets.new ≡ octets_written message octets.old first end held }
 {
     let c = Cursor { at: first, end };
-    if message == DEMAND {
-        return write_as(octets, c, held.demand);
+    match message_named(message) {
+        Some(Message::Demand) => write_as(octets, c, held.demand),
+        Some(Message::Accept) => write_as(octets, c, held.accept),
+        Some(Message::AttachDetach) => write_as(octets, c, held.attach_detach),
+        None => refused(),
     }
-    if message == ACCEPT {
-        return write_as(octets, c, held.accept);
-    }
-    if message == ATTACH_DETACH {
-        return write_as(octets, c, held.attach_detach);
-    }
-    refused()
 }

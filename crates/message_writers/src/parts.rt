@@ -1,6 +1,5 @@
 // What two of the messages share: the two addresses, and generic elements in a row.
 ghost use Rattle.std.specs.Prelude.{◌≡◌, true, ◌≤◌, map};
-ghost use Rattle.bits.specs.Bits.{bit};
 ghost use Rattle.bits.specs.Placed.{as_place};
 ghost use Rattle.bits.specs.Written.{written, Holds};
 ghost use Rattle.bits.specs.PutsLaws.{Puts};
@@ -9,13 +8,6 @@ ghost use Rattle.message_writers.specs.Parts.{addresses_bits, generic_part, gene
 use bits::bitbuffer::{Digits, NO_DIGITS, Place};
 use element_writers::typed_pdu_fields::{then_type2, type3_fits, type3_size, write_type3_generic};
 use elements::typed_pdu_fields::{OptionalType3, OptionalU64};
-
-// An O-bit, or whether a field is present.
-pub fn flag(set: bool) -> u8
-    ensures { result ≡ bit set }
-{
-    if set { 1 } else { 0 }
-}
 
 // SSI and address extension, two type 2 elements.
 pub(crate) fn addresses(ssi: OptionalU64, extension: OptionalU64) -> Digits

@@ -11,7 +11,7 @@ ghost use Rattle.message_writers.specs.Parts.{generics_asked, generics_parts};
 ghost use Rattle.message_writers.specs.DemandParts.{demand_head_in, demand_generics_in, demand_front, demand_first, demand_head_tests, demand_options_tests, demand_options_size, demand_options_parts, demand_behind, DemandIs};
 
 use crate::PduWriter;
-use crate::parts::{Generics, addresses, ask_generics, flag, write_generics};
+use crate::parts::{Generics, addresses, ask_generics, write_generics};
 use crate::questions::Answers;
 use bits::bitbuffer::{Cursor, Digits, NO_DIGITS, Place, within};
 use element_writers::class_of_ms::{class_fits, type2_class};
@@ -55,7 +55,7 @@ fn head_of(d: ULocationUpdateDemand) -> DemandHead
             ssi: d.ssi,
             address_extension: d.address_extension,
         },
-        obit: flag(is_more(d)),
+        obit: is_more(d) as u8,
     }
 }
 

@@ -11,6 +11,7 @@ pub mod MessageLaws
 pub mod ReadBack
 pub mod PlacedMessages
 pub mod CallNumbers
+pub mod KindLaws
 pub mod PlacedCalls
 pub mod Demand3Calls
 pub mod RoundTrip

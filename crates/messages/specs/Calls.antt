@@ -1,6 +1,6 @@
 -- A reading call and a writing call over octets and a window (document 01, 'A reading call', 'A writing call').
 use Rattle.std.specs.Prelude.{ℕ, ◌+◌, ◌-◌, ◌*◌, ◌/◌, Bool, cond, ◌&&◌, ◌||◌, List, [], length, drop, eqb, leb}
-use Rattle.std.specs.Prelude.{Option, None}
+use Rattle.std.specs.Prelude.{◌≡◌, true, false, Option, None}
 use Rattle.bits.specs.PduParseError.{bad_call}
 use Rattle.bits.specs.Bits.{Bits}
 use Rattle.bits.specs.Reader.{Answer, got, refused, Reader}
@@ -20,6 +20,8 @@ use Rattle.messages.specs.declared.d_attach_detach_group_identity.DAttachDetachG
 use Rattle.bits.specs.declared.pdu_parse_error.PduParseErr.{PduParseErr}
 use Rattle.bits.specs.declared.bitbuffer.Cursor.{Cursor}
 use Rattle.messages.specs.declared.Record.{Record}
+use Rattle.messages.specs.declared.Message.{Message as Kind}
+use Rattle.messages.specs.declared.Message.TheVariants as K
 use Rattle.messages.specs.declared.Reading.{Reading}
 use Rattle.messages.specs.declared.Writing.{Writing}
 use Rattle.std.specs.Prelude.{Result, Ok, Err, Some}
@@ -83,6 +85,17 @@ format_of attach_detach = attach_detach_format
 
 unfoldable pub known : ℕ → Bool
 known m = eqb m u_location_update_demand_type || (eqb m d_location_update_accept_type || eqb m d_attach_detach_group_identity_type)
+
+-- the message of a kind
+abbrev pub message_of_kind : Kind → Message
+message_of_kind K.Demand = demand
+message_of_kind K.Accept = accept
+message_of_kind K.AttachDetach = attach_detach
+
+-- the kind that a number names: its message's, and none if the number is unknown
+abbrev pub Named : ℕ → Option Kind → Type 0
+Named m None = known m ≡ false
+Named m (Some k) = (known m ≡ true) × (message_of m ≡ message_of_kind k)
 
 -- ## reading
 

@@ -7,7 +7,7 @@ pub mod u_location_update_demand;
 
 ghost use Rattle.std.specs.Prelude.{ℕ, ◌≡◌, ◌≤◌};
 ghost use Rattle.bits.specs.Placed.{halted, at};
-ghost use Rattle.messages.specs.Calls.{no_record, message_of, read_message, known, good_window, good_call, no_reading, reading, behind, accepted, called};
+ghost use Rattle.messages.specs.Calls.{no_record, message_of, read_message, Named, good_window, good_call, no_reading, reading, behind, accepted, called};
 ghost use Rattle.messages.specs.declared.Record.{Record};
 ghost use Rattle.messages.specs.MessageAnswers.{message_answer, Own};
 
@@ -98,40 +98,38 @@ pub const SKIPPING: u64 = 1;
 
 const OCTETS_MOST: usize = 4096;
 
-fn is_known(message: u64) -> bool
-    ensures { result ≡ known message }
+// The messages that can be asked for.
+#[derive(Clone, Copy, PartialEq, Eq)]
+pub enum Message {
+    Demand,
+    Accept,
+    AttachDetach,
+}
+
+// The message of a type number, if the number is known.
+pub fn message_named(number: u64) -> Option<Message>
+    ensures { Named number result }
 {
-    if message == DEMAND {
-        return true;
+    match number {
+        DEMAND => Some(Message::Demand),
+        ACCEPT => Some(Message::Accept),
+        ATTACH_DETACH => Some(Message::AttachDetach),
+        _ => None,
     }
-    if message == ACCEPT {
-        return true;
-    }
-    message == ATTACH_DETACH
 }
 
 // Whether the octets are few enough and the window lies inside them.
-fn is_good_window(octets: usize, first: usize, end: usize) -> bool
-    ensures { result ≡ good_window octets first end }
+fn is_good_window(octets: usize, c: Cursor) -> bool
+    ensures { result ≡ good_window octets c.at c.end }
 {
-    if octets <= OCTETS_MOST {
-        if first <= end {
-            return end <= 8 * octets;
-        }
-    }
-    false
+    octets <= OCTETS_MOST && c.at <= c.end && c.end <= 8 * octets
 }
 
 // Question 1.
-pub fn is_good_call(octets: usize, first: usize, end: usize, message: u64, wanted: u64) -> bool
-    ensures { result ≡ good_call message wanted octets first end }
+pub fn is_good_call(octets: usize, c: Cursor, message: u64, wanted: u64) -> bool
+    ensures { result ≡ good_call message wanted octets c.at c.end }
 {
-    if is_known(message) {
-        if wanted <= SKIPPING {
-            return is_good_window(octets, first, end);
-        }
-    }
-    false
+    message_named(message).is_some() && wanted <= SKIPPING && is_good_window(octets, c)
 }
 
 // A message that is refused.
@@ -166,7 +164,7 @@ fn answered(first: usize, skipped: usize, c: Cursor, held: Record) -> Reading
         verdict: Ok(()),
         place: c.at,
         consumed: c.at - first,
-        skipped: skipped,
+        skipped,
         record: held,
     }
 }
@@ -188,16 +186,17 @@ fn read_as<M: Pdu>(octets: &[u8], c: Cursor, skipping: bool) -> Reading
 pub fn read(octets: &[u8], first: usize, end: usize, message: u64, wanted: u64) -> Reading
     ensures { result ≡ reading message wanted octets.now first end }
 {
-    if is_good_call(octets.len(), first, end, message, wanted) {
-        let c = Cursor { at: first, end };
+    let c = Cursor { at: first, end };
+    if is_good_call(octets.len(), c, message, wanted) {
         let skipping = wanted == SKIPPING;
-        if message == DEMAND {
-            return read_as::<ULocationUpdateDemand>(octets, c, skipping);
-        }
-        if message == ACCEPT {
-            return read_as::<DLocationUpdateAccept>(octets, c, skipping);
-        }
-        return read_as::<DAttachDetachGroupIdentity>(octets, c, skipping);
+        return match message_named(message) {
+            Some(Message::Demand) => read_as::<ULocationUpdateDemand>(octets, c, skipping),
+            Some(Message::Accept) => read_as::<DLocationUpdateAccept>(octets, c, skipping),
+            Some(Message::AttachDetach) => {
+                read_as::<DAttachDetachGroupIdentity>(octets, c, skipping)
+            }
+            None => refused(PduParseErr::BadCall, first),
+        };
     }
     refused(PduParseErr::BadCall, first)
 }

@@ -1,7 +1,7 @@
 -- `exports::read_call` meets its contract: question 1, and then the message. Assumes nothing.
 use mathlib.Core.Path.{sym, ◌∙◌}
-use borrow.Author.Tests.{eq-eqb, ne_eqb}
 use Rattle.bits.specs.PlacedLaws.{Fact, fact}
+use Rattle.messages.specs.Calls.{good_call}
 use Rattle.exports.specs.ReadLaws.{bad_read, good_read}
 use Rattle.exports.proofs.read_call.Goals as goal
 use Rattle.exports.proofs.read_call.Goals.{Then-is_good_call}
@@ -15,25 +15,35 @@ good t =
 pub read_into-requires : goal.read_into-requires
 read_into-requires c = (good ((goal.at.read_into-requires c).Then-is_good_call)).holds.window
 
-pub returns-then-message-eq-DEMAND : goal.returns-then-message-eq-DEMAND
-returns-then-message-eq-DEMAND c =
-    let r = (good ((goal.at.returns-then-message-eq-DEMAND c).Then-is_good_call)).holds.answer _ _ (rw (eq-eqb _ _ c.if-message-eq-DEMAND.true) (c.read_into.ensures.result, c.read_into.ensures.buffer)) in
+pub returns-in-Some-Demand : goal.returns-in-Some-Demand
+returns-in-Some-Demand c =
+    let named = rw c.in-Some-Demand.field-0-is at c.in-Some-Demand.ensures in
+    let r = (good ((goal.at.returns-in-Some-Demand c).Then-is_good_call)).holds.answer _ _ (rw named.1 (c.read_into.ensures.result, c.read_into.ensures.buffer)) in
     record { result = r.0; buffer = r.1 }
 
-pub read_into-requires-then-message-eq-ACCEPT : goal.read_into-requires-then-message-eq-ACCEPT
-read_into-requires-then-message-eq-ACCEPT c = (good ((goal.at.read_into-requires-then-message-eq-ACCEPT c).Then-is_good_call)).holds.window
+pub read_into-requires-in-Some-Accept : goal.read_into-requires-in-Some-Accept
+read_into-requires-in-Some-Accept c = (good ((goal.at.read_into-requires-in-Some-Accept c).Then-is_good_call)).holds.window
 
-pub returns-then-message-eq-ACCEPT : goal.returns-then-message-eq-ACCEPT
-returns-then-message-eq-ACCEPT c =
-    let r = (good ((goal.at.returns-then-message-eq-ACCEPT c).Then-is_good_call)).holds.answer _ _ (rw (ne_eqb _ _ c.if-message-eq-DEMAND.false, eq-eqb _ _ c.if-message-eq-ACCEPT.true) (c.read_into-then-message-eq-ACCEPT.ensures.result, c.read_into-then-message-eq-ACCEPT.ensures.buffer)) in
+pub returns-in-Some-Accept : goal.returns-in-Some-Accept
+returns-in-Some-Accept c =
+    let named = rw c.in-Some-Accept.field-0-is at c.in-Some-Accept.ensures in
+    let r = (good ((goal.at.returns-in-Some-Accept c).Then-is_good_call)).holds.answer _ _ (rw named.1 (c.read_into-in-Some-Accept.ensures.result, c.read_into-in-Some-Accept.ensures.buffer)) in
     record { result = r.0; buffer = r.1 }
 
-pub read_into-requires-then-is_good_call : goal.read_into-requires-then-is_good_call
-read_into-requires-then-is_good_call c = (good ((goal.at.read_into-requires-then-is_good_call c).Then-is_good_call)).holds.window
+pub read_into-requires-in-Some-AttachDetach : goal.read_into-requires-in-Some-AttachDetach
+read_into-requires-in-Some-AttachDetach c = (good ((goal.at.read_into-requires-in-Some-AttachDetach c).Then-is_good_call)).holds.window
 
-pub returns-then-is_good_call : goal.returns-then-is_good_call
-returns-then-is_good_call c =
-    let r = (good ((goal.at.returns-then-is_good_call c).Then-is_good_call)).holds.answer _ _ (rw (ne_eqb _ _ c.if-message-eq-DEMAND.false, ne_eqb _ _ c.if-message-eq-ACCEPT.false) (c.read_into-then-is_good_call.ensures.result, c.read_into-then-is_good_call.ensures.buffer)) in
+pub returns-in-Some-AttachDetach : goal.returns-in-Some-AttachDetach
+returns-in-Some-AttachDetach c =
+    let named = rw c.in-Some-AttachDetach.field-0-is at c.in-Some-AttachDetach.ensures in
+    let r = (good ((goal.at.returns-in-Some-AttachDetach c).Then-is_good_call)).holds.answer _ _ (rw named.1 (c.read_into-in-Some-AttachDetach.ensures.result, c.read_into-in-Some-AttachDetach.ensures.buffer)) in
+    record { result = r.0; buffer = r.1 }
+
+pub returns-in-None : goal.returns-in-None
+unfolding good_call
+returns-in-None c =
+    let a = c.args in
+    let r = bad_read a.message a.wanted a.octets.now a.c.at a.c.end a.flat.now (rw c.in-None.ensures) in
     record { result = r.0; buffer = r.1 }
 
 pub returns : goal.returns

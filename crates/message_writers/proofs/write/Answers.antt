@@ -1,27 +1,27 @@
 -- `message_writers::write` meets its contract. Assumes nothing.
 use mathlib.Core.Path.{◌∙◌}
-use borrow.Author.Tests.{ne_eqb}
 use Rattle.messages.specs.Calls.{writing, octets_written, writing_refusal}
+use Rattle.messages.proofs.KindLaws.{type_named}
 use Rattle.message_writers.specs.CallsLaws.{unknown_write}
 use Rattle.message_writers.proofs.write.Goals as goal
 
-pub returns-then-message-eq-DEMAND : goal.returns-then-message-eq-DEMAND
+pub returns-in-Some-Demand : goal.returns-in-Some-Demand
 unfolding writing octets_written writing_refusal
-returns-then-message-eq-DEMAND c =
-    rw c.if-message-eq-DEMAND.true c.write_as.ensures
+returns-in-Some-Demand c =
+    rw (type_named c.args.message c.in-Some-Demand.field-0 c.in-Some-Demand.ensures, c.in-Some-Demand.field-0-is) c.write_as.ensures
 
-pub returns-then-message-eq-ACCEPT : goal.returns-then-message-eq-ACCEPT
+pub returns-in-Some-Accept : goal.returns-in-Some-Accept
 unfolding writing octets_written writing_refusal
-returns-then-message-eq-ACCEPT c =
-    rw c.if-message-eq-ACCEPT.true c.write_as-then-message-eq-ACCEPT.ensures
+returns-in-Some-Accept c =
+    rw (type_named c.args.message c.in-Some-Accept.field-0 c.in-Some-Accept.ensures, c.in-Some-Accept.field-0-is) c.write_as-in-Some-Accept.ensures
 
-pub returns-then-message-eq-ATTACH_DETACH : goal.returns-then-message-eq-ATTACH_DETACH
+pub returns-in-Some-AttachDetach : goal.returns-in-Some-AttachDetach
 unfolding writing octets_written writing_refusal
-returns-then-message-eq-ATTACH_DETACH c =
-    rw c.if-message-eq-ATTACH_DETACH.true c.write_as-then-message-eq-ATTACH_DETACH.ensures
+returns-in-Some-AttachDetach c =
+    rw (type_named c.args.message c.in-Some-AttachDetach.field-0 c.in-Some-AttachDetach.ensures, c.in-Some-AttachDetach.field-0-is) c.write_as-in-Some-AttachDetach.ensures
 
-pub returns : goal.returns
-returns c =
+pub returns-in-None : goal.returns-in-None
+returns-in-None c =
     let a = c.args in
-    let call = unknown_write a.message a.octets.now a.first a.end a.held (ne_eqb _ _ c.if-message-eq-DEMAND.false) (ne_eqb _ _ c.if-message-eq-ACCEPT.false) (ne_eqb _ _ c.if-message-eq-ATTACH_DETACH.false) in
+    let call = unknown_write a.message a.octets.now a.first a.end a.held c.in-None.ensures in
     record { answer = c.refused.ensures ∙ call.0; octets = call.1 }

@@ -1,8 +1,7 @@
 -- `messages::read` meets its contract: question 1, then the message. Assumes nothing.
 use mathlib.Core.Path.{sym, ◌∙◌}
-use borrow.Author.Tests.{eq-eqb, ne_eqb}
 use Rattle.bits.specs.PlacedLaws.{Fact, fact}
-use Rattle.messages.specs.Calls.{demand, accept, attach_detach}
+use Rattle.messages.specs.Calls.{good_call, demand, accept, attach_detach}
 use Rattle.messages.proofs.PlacedCalls.{good_call_lem, bad_call_lem}
 use Rattle.messages.proofs.read.Goals as goal
 use Rattle.messages.proofs.read.Goals.{Then-is_good_call}
@@ -11,22 +10,31 @@ use Rattle.messages.proofs.read.Goals.{Then-is_good_call}
 abbrev good : Then-is_good_call → Fact
 good c = fact (sym c.is_good_call.ensures ∙ c.if-is_good_call.true)
 
-pub returns-then-message-eq-DEMAND : goal.returns-then-message-eq-DEMAND
-returns-then-message-eq-DEMAND c =
+pub returns-in-Some-Demand : goal.returns-in-Some-Demand
+returns-in-Some-Demand c =
     let a = c.args in
-    c.read_as.ensures ∙ good_call_lem a.message a.wanted a.octets.now a.first a.end demand (rw (eq-eqb _ _ c.if-message-eq-DEMAND.true)) (good ((goal.at.returns-then-message-eq-DEMAND c).Then-is_good_call)).holds
+    let named = rw c.in-Some-Demand.field-0-is at c.in-Some-Demand.ensures in
+    c.read_as.ensures ∙ good_call_lem a.message a.wanted a.octets.now a.first a.end demand named.1 (good ((goal.at.returns-in-Some-Demand c).Then-is_good_call)).holds
 
-pub returns-then-message-eq-ACCEPT : goal.returns-then-message-eq-ACCEPT
-returns-then-message-eq-ACCEPT c =
+pub returns-in-Some-Accept : goal.returns-in-Some-Accept
+returns-in-Some-Accept c =
     let a = c.args in
-    c.read_as-then-message-eq-ACCEPT.ensures ∙ good_call_lem a.message a.wanted a.octets.now a.first a.end accept (rw (ne_eqb _ _ c.if-message-eq-DEMAND.false, eq-eqb _ _ c.if-message-eq-ACCEPT.true)) (good ((goal.at.returns-then-message-eq-ACCEPT c).Then-is_good_call)).holds
+    let named = rw c.in-Some-Accept.field-0-is at c.in-Some-Accept.ensures in
+    c.read_as-in-Some-Accept.ensures ∙ good_call_lem a.message a.wanted a.octets.now a.first a.end accept named.1 (good ((goal.at.returns-in-Some-Accept c).Then-is_good_call)).holds
 
-pub returns-then-is_good_call : goal.returns-then-is_good_call
-returns-then-is_good_call c =
+pub returns-in-Some-AttachDetach : goal.returns-in-Some-AttachDetach
+returns-in-Some-AttachDetach c =
     let a = c.args in
-    c.read_as-then-is_good_call.ensures ∙ good_call_lem a.message a.wanted a.octets.now a.first a.end attach_detach (rw (ne_eqb _ _ c.if-message-eq-DEMAND.false, ne_eqb _ _ c.if-message-eq-ACCEPT.false)) (good ((goal.at.returns-then-is_good_call c).Then-is_good_call)).holds
+    let named = rw c.in-Some-AttachDetach.field-0-is at c.in-Some-AttachDetach.ensures in
+    c.read_as-in-Some-AttachDetach.ensures ∙ good_call_lem a.message a.wanted a.octets.now a.first a.end attach_detach named.1 (good ((goal.at.returns-in-Some-AttachDetach c).Then-is_good_call)).holds
+
+pub returns-in-None : goal.returns-in-None
+unfolding good_call
+returns-in-None c =
+    let a = c.args in
+    c.refused.ensures ∙ bad_call_lem a.message a.wanted a.octets.now a.first a.end (rw c.in-None.ensures)
 
 pub returns : goal.returns
 returns c =
     let a = c.args in
-    c.refused.ensures ∙ bad_call_lem a.message a.wanted a.octets.now a.first a.end (sym c.is_good_call.ensures ∙ c.if-is_good_call.false)
+    c.refused-2.ensures ∙ bad_call_lem a.message a.wanted a.octets.now a.first a.end (sym c.is_good_call.ensures ∙ c.if-is_good_call.false)

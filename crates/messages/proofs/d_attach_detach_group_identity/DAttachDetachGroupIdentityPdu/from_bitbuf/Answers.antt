@@ -1,8 +1,8 @@
 -- `messages::d_attach_detach_group_identity::DAttachDetachGroupIdentityPdu::from_bitbuf` meets its contract: the head, then no elements, or the table in two
 -- parts and its own slot between them. No count overflows: each element skipped is a bit at least. Assumes nothing.
-use mathlib.Core.Path.{◌≡◌, ap, ◌∙◌, refl}
+use mathlib.Core.Path.{◌≡◌, ◌∙◌, refl}
 use native.Mathlib.Omega.{arith}
-use Prim.Native.Nat.{◌+◌, ℕ, ◌-◌}
+use Prim.Native.Nat.{◌+◌}
 use Rattle.bits.specs.ReaderLaws.{local_tail}
 use Rattle.bits.specs.Placed.{placed, at}
 use Rattle.bits.specs.PlacedLaws.{Gives, by, from, refused_by, Fact, fact}
@@ -14,12 +14,10 @@ use Rattle.messages.proofs.AttachDetachLaws.{attach_detach_head-local}
 use Rattle.messages.specs.Calls.{attach_detach_format, of_attach_detach}
 use Rattle.messages.proofs.PlacedMessages.{no_head, none_follow, elements_follow}
 use Rattle.messages.specs.MessageAnswers.{attach_detach_answer, attach_detach_from}
-use mathlib.Core.Bool.{Bool, true, false}
+use mathlib.Core.Bool.{true, false}
 use Rattle.std.specs.Prelude.{Option}
 use mathlib.Core.List.{List, [], ◌∷◌, ◌++◌}
-use lib.ListN.{length, take, drop}
-use lib.Seq.{sets, take_all}
-use Rattle.bits.specs.declared.bitbuffer.Cursor.{Cursor}
+use lib.Seq.{sets}
 use Rattle.elements.specs.Kinds.{Element, row, of_downlinks, held_element, identifier_of, content}
 use Rattle.elements.specs.Rows.{part, no_generics}
 use Rattle.elements.proofs.PlacedLocations.{downlinks_slot_lem}
