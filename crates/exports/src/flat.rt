@@ -1,6 +1,6 @@
 // The flat form of a record (document 01, 'What must change shape'): a field is a presence octet and 8 octets, high first; what
 // is absent keeps its place, all zeros. Each function puts its part from `at` on and gives the place behind it. Presence and value
-// stay apart, as the record has them: an option would be made to be opened at once.
+// stay apart, as the record has them, but for an address: an option would be made to be opened at once.
 ghost use Rattle.std.specs.Prelude.{ℕ, ◌≡◌, refl, cond, ◌+◌, ◌*◌, ◌≤◌, leb, List, [], ◌∷◌, length};
 ghost use Rattle.bits.specs.Bits.{bit};
 ghost use Rattle.std.proofs.lemmas.List.Edits.{sets};
