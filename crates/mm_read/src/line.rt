@@ -1,6 +1,7 @@
 // A line as it comes in, character by character.
-ghost use Rattle.std.specs.Prelude.{◌≡◌, ℕ, ◌<◌, ◌↔◌, List, [], length, ◌==◌, IfOk, IsOk};
+ghost use Rattle.std.specs.Prelude.{◌≡◌, ℕ, ◌<◌, ◌↔◌, List, [], length, ◌==◌, IfErr, IfOk, IsOk};
 ghost use Rattle.mm_read.specs.declared.line.TheConstants.{LINE};
+ghost use Rattle.mm_read.specs.declared.call.Fault.TheVariants.{LineTooLong};
 ghost use Rattle.mm_read.specs.Lines.{kept, held_by, without_return};
 
 use crate::call::Fault;
@@ -58,6 +59,7 @@ impl Line {
     pub(crate) fn text(&self) -> Result<Text, Fault>
         ensures fits { IsOk result ↔ (length self.now < LINE) }
         ensures text { IfOk result (λ t. t ≡ without_return self.now) }
+        ensures fault { IfErr result (λ e. e ≡ LineTooLong) }
     {
         if self.characters.is_full() {
             return Err(Fault::LineTooLong);
