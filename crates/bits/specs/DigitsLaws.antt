@@ -1,13 +1,10 @@
 -- Bits that are written as one field, and fields that are written one after the other.
-use Rattle.std.specs.Prelude.{ℕ, ◌+◌, ◌*◌, ◌%◌, ◌^◌, ◌≤◌, ◌<◌, ◌≡◌, refl, Bool, true, false, cond, List, [], ◌++◌, length, leb}
+use Rattle.std.specs.Prelude.{ℕ, ◌+◌, ◌*◌, ◌%◌, ◌^◌, ◌≤◌, ◌<◌, ◌≡◌, refl, Bool, true, false, [], ◌++◌, length, leb}
 use Rattle.std.proofs.Common.{arith, sym, ap, ap₂, ◌∙◌, append_assoc, length-append, lit<, le-leb, leb-true, leb-false}
 use Rattle.std.proofs.lemmas.Bool.{lt-leb}
-use Rattle.bits.specs.PduParseError.{value_too_large}
 use Rattle.bits.specs.Bits.{Bits, number, digits}
-use Rattle.bits.specs.BitsLaws.{number_lt, length_digits, number_digits-mod, digits_number, number_append}
-use Rattle.bits.specs.Written.{write, write_field, unwritten, bits_in, too_wide, digits_in, Holds, Joined, write_digits}
-use Rattle.bits.specs.WrittenLaws.{field_fits, field_wide}
-use Rattle.bits.specs.declared.bitbuffer.Cursor.{Cursor}
+use Rattle.bits.specs.BitsLaws.{length_digits, number_digits-mod, digits_number, number_append}
+use Rattle.bits.specs.Written.{bits_in, too_wide, digits_in, Holds, Joined}
 use Rattle.bits.specs.declared.bitbuffer.Digits.{Digits}
 
 module _ (xs : Bits) where
@@ -68,15 +65,3 @@ pub joined-twice : {d e r : Digits} {xs ys : Bits} → Joined d xs e → Joined 
 joined-twice {d} {e} {r} {xs} {ys} p q =
     let k : Holds r ((bits_in d ++ xs) ++ ys) = behind p ▹ q in
     record { is = k.is ∙ ap digits_in (append_assoc (bits_in d) xs ys) }
-
--- written as one field
-pub digits-written : {d : Digits} {xs : Bits} (os : List ℕ) (c : Cursor) → Holds d xs → write_field d.width d.value os c ≡ write_digits xs os c
-digits-written {d} {xs} os c e = rw e.is (go (leb (length xs) 64) refl)
-  where
-    go : (b : Bool) → leb (length xs) 64 ≡ b
-        → write_field (digits_in xs).width (digits_in xs).value os c ≡ cond b (write xs os c) (unwritten value_too_large os)
-    go true h =
-        ap (λ (d : Digits). write_field d.width d.value os c) (digits-few xs (leb-true _ _ h))
-        ∙ field_fits (length xs) (number xs) os c (leb-true _ _ h) (number_lt xs) ∙ ap (λ (zs : Bits). write zs os c) (digits_number xs)
-    go false h =
-        ap (λ (d : Digits). write_field d.width d.value os c) (digits-many xs (leb-false _ _ h)) ∙ field_wide 65 0 os c (lit< tt)

@@ -1,11 +1,10 @@
 -- A reader of bits, run at a cursor over octets; and what each answer of the code says.
-use Rattle.std.specs.Prelude.{ℕ, ◌+◌, ◌-◌, ◌*◌, min, List, length, take, drop, Option, None, Some, Result, Ok, Err}
+use Rattle.std.specs.Prelude.{ℕ, ◌+◌, ◌-◌, ◌*◌, min, List, length, take, drop, Result, Ok, Err}
 use Rattle.bits.specs.Bits.{Bits, number, bits_of}
 use Rattle.bits.specs.PduParseError.{number_of}
 use Rattle.bits.specs.Reader.{Answer, got, refused, Reader}
 use Rattle.bits.specs.declared.bitbuffer.Cursor.{Cursor}
 use Rattle.bits.specs.declared.pdu_parse_error.PduParseErr.{PduParseErr}
-use Rattle.bits.specs.declared.bitbuffer.Place.{Place}
 
 -- the bits left at a cursor: none past its end, and none past the octets
 unfoldable pub window : List ℕ → Cursor → Bits
@@ -50,19 +49,6 @@ as_read = as_by (λ v. v)
 abbrev pub as_moved : Result Cursor PduParseErr → Placed Unit
 as_moved (Ok c) = placed tt c
 as_moved (Err e) = halted e
-
-abbrev placed_unless : Option PduParseErr → Cursor → Placed Unit
-placed_unless None c = placed tt c
-placed_unless (Some e) c = halted e
-
--- a place to write at, or the refusal behind which nothing is written
-abbrev pub as_place : Place → Placed Unit
-as_place p = placed_unless p.halt (record { at = p.at; end = p.end })
-
--- w bits written at a cursor, or a refusal
-abbrev pub stored : ℕ → Cursor → Result Unit PduParseErr → Placed Unit
-stored w c (Ok z) = placed tt (onward w c)
-stored w c (Err e) = halted e
 
 -- the number of a refusal, 0 if there is none
 abbrev pub refusal : {A : Type 0} → Placed A → ℕ

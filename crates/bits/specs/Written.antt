@@ -1,5 +1,5 @@
 -- Bits written at a cursor: the octets afterwards, and the moved place or the refusal.
-use Rattle.std.specs.Prelude.{ℕ, zero, suc, ◌+◌, ◌^◌, ◌≡◌, Bool, false, cond, List, [], ◌∷◌, ◌++◌, length, take, drop, leb, ltb}
+use Rattle.std.specs.Prelude.{ℕ, zero, suc, ◌+◌, ◌^◌, ◌≡◌, cond, List, [], ◌∷◌, ◌++◌, length, take, drop, leb, ltb}
 use Rattle.bits.specs.PduParseError.{value_too_large, window_too_short}
 use Rattle.bits.specs.Bits.{Bits, number, digits, bits_of}
 use Rattle.bits.specs.Placed.{left, onward, Placed, placed, halted}
@@ -38,37 +38,31 @@ write xs os c =
 unfoldable pub write_field : ℕ → ℕ → List ℕ → Cursor → Written
 write_field w v os c = cond (leb w 64) (cond (ltb v (2 ^ w)) (write (digits w v) os c) (unwritten value_too_large os)) (unwritten value_too_large os)
 
--- ## one after the other
-
 abbrev pub written : List ℕ → Placed Unit → Written
 written os a = record { octets = os; answer = a }
 
--- what comes next is written at the moved place; behind a refusal nothing is
-abbrev pub next_at : (List ℕ → Cursor → Written) → List ℕ → Placed Unit → Written
-next_at f os (placed z c) = f os c
-next_at f os (halted n) = unwritten n os
+-- ## one after the other
 
-abbrev pub next : (List ℕ → Cursor → Written) → Written → Written
-next f w = next_at f w.octets w.answer
+-- octets, and the cursor at which what comes next is put
+pub record Spot : Type 0 where
+  pub octets : List ℕ
+  pub cursor : Cursor
 
--- whether n bits are left in so many octets
-abbrev pub room_for : ℕ → ℕ → Placed Unit → Bool
-room_for n len (placed z c) = leb n (left len c)
-room_for n len (halted k) = false
+abbrev pub spot : List ℕ → Cursor → Spot
+spot os c = record { octets = os; cursor = c }
 
--- a refusal; one that stands already stays
-abbrev pub refuse : PduParseErr → Placed Unit → Placed Unit
-refuse n (placed z c) = halted n
-refuse n (halted k) = halted k
+-- WHAT PUTTING BITS GIVES: they stand at the cursor where so many are left, and the cursor is behind them; else nothing changes
+unfoldable pub put : Bits → Spot → Spot
+put xs s = cond (leb (length xs) (left (length s.octets) s.cursor)) (spot (put_bits s.octets s.cursor.at xs) (onward (length xs) s.cursor)) s
 
 -- lists of bits, one after the other
 unfoldable pub joined : List Bits → Bits
 joined [] = []
 joined (xs ∷ xss) = xs ++ joined xss
 
-unfoldable pub puts : List Bits → Written → Written
-puts [] w = w
-puts (xs ∷ xss) w = puts xss (next (write xs) w)
+unfoldable pub puts : List Bits → Spot → Spot
+puts [] s = s
+puts (xs ∷ xss) s = puts xss (put xs s)
 
 -- ## bits that are written as one field, at most 64
 
@@ -81,6 +75,10 @@ too_wide = record { value = 0; width = 65 }
 unfoldable pub digits_in : Bits → Digits
 digits_in xs = cond (leb (length xs) 64) (record { value = number xs; width = length xs }) too_wide
 
+-- more than 64 are not put
+abbrev pub put_digits : Digits → Spot → Spot
+put_digits d s = cond (leb d.width 64) (put (bits_in d) s) s
+
 -- d stands for the bits xs
 pub record Holds (d : Digits) (xs : Bits) : Type 0 where
   pub is : d ≡ digits_in xs
@@ -88,7 +86,3 @@ pub record Holds (d : Digits) (xs : Bits) : Type 0 where
 -- r stands for those of d with xs behind them
 pub record Joined (d : Digits) (xs : Bits) (r : Digits) : Type 0 where
   pub is : r ≡ digits_in (bits_in d ++ xs)
-
--- up to 64 bits, or 8
-abbrev pub write_digits : Bits → List ℕ → Cursor → Written
-write_digits xs os c = cond (leb (length xs) 64) (write xs os c) (unwritten value_too_large os)

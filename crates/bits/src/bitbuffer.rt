@@ -1,10 +1,10 @@
 // A field of bits at a cursor: read, passed, written. Bit 0 is the top bit of octet 0.
-ghost use Rattle.std.specs.Prelude.{◌≡◌, ℕ, IfOk, ◌+◌, ◌-◌, ◌*◌, ◌%◌, ◌^◌, ◌≤◌, ◌<◌, length, leb, ltb};
+ghost use Rattle.std.specs.Prelude.{◌≡◌, ℕ, ◌+◌, ◌-◌, ◌*◌, ◌%◌, ◌^◌, ◌≤◌, ◌<◌, length, leb, ltb};
 ghost use Rattle.std.proofs.Common.{rules};
 ghost use Rattle.bits.specs.Bits.{number, digits};
 ghost use Rattle.bits.specs.Reader.{word, pass};
-ghost use Rattle.bits.specs.Placed.{left, field_at, onward, at, as_by, as_moved, as_place, stored};
-ghost use Rattle.bits.specs.Written.{splice, put_bits, write_field, written, next, Joined, room_for, refuse};
+ghost use Rattle.bits.specs.Placed.{left, field_at, onward, at, as_by, as_moved};
+ghost use Rattle.bits.specs.Written.{splice, put_bits, write_field, spot, put_digits, Joined};
 
 use crate::pdu_parse_error::PduParseErr;
 
@@ -76,15 +76,6 @@ impl Number for u64 {
     fn of(v: u64) -> u64 {
         v
     }
-}
-
-// Where what comes next is written: from `at` up to `end`; or nowhere, behind a refusal. A struct, since a `Result` has no methods of
-// ours, and each write is one.
-#[derive(Clone, Copy)]
-pub struct Place {
-    pub at: usize,
-    pub end: usize,
-    pub halt: Option<PduParseErr>,
 }
 
 // At most 64 bits, to be written as one field: the low `width` digits of `value`.
@@ -204,7 +195,7 @@ fn put(octets: &mut [u8], at: usize, width: usize, value: u64)
 
 impl Cursor {
     // Whether `width` bits are left, in `len` octets.
-    fn holds(self, len: usize, width: usize) -> bool
+    pub fn holds(self, len: usize, width: usize) -> bool
         ensures { result ≡ leb width (left len self) }
     {
         let Cursor { at, end } = self;
@@ -253,10 +244,9 @@ impl Cursor {
     }
 
     // Writes `value` in the next `width` bits, every other bit kept; a refusal changes nothing.
-    fn store(self, octets: &mut [u8], value: u64, width: usize) -> Result<(), PduParseErr>
-        ensures answer { stored width self result ≡ (write_field width value octets.old self).answer }
+    pub fn write(self, octets: &mut [u8], value: u64, width: usize) -> Moved
+        ensures answer { as_moved result ≡ (write_field width value octets.old self).answer }
         ensures octets { octets.new ≡ (write_field width value octets.old self).octets }
-        ensures room { IfOk result (λ z. self.at + width < 2 ^ 64) }
     {
         if 64 < width {
             return Err(PduParseErr::ValueTooLarge);
@@ -264,20 +254,23 @@ impl Cursor {
         if within(value, width) {
             if self.holds(octets.len(), width) {
                 put(octets, self.at, width, value);
-                return Ok(());
+                return Ok(self.past(width));
             }
             return Err(PduParseErr::WindowTooShort);
         }
         Err(PduParseErr::ValueTooLarge)
     }
 
-    // The same, with the cursor behind them.
-    pub fn write(self, octets: &mut [u8], value: u64, width: usize) -> Moved
-        ensures answer { as_moved result ≡ (write_field width value octets.old self).answer }
-        ensures octets { octets.new ≡ (write_field width value octets.old self).octets }
+    // Puts `d` in the next bits where they are left, every other bit kept; else nothing, and the cursor stays. Who puts one field after
+    // another asks for the room of all of them first.
+    pub fn put(self, octets: &mut [u8], d: Digits) -> Cursor
+        ensures { spot octets.new result ≡ put_digits d (spot octets.old self) }
     {
-        self.store(octets, value, width)?;
-        Ok(self.past(width))
+        if d.width <= 64 && self.holds(octets.len(), d.width) {
+            put(octets, self.at, d.width, lowest(d.value, d.width));
+            return self.past(d.width);
+        }
+        self
     }
 }
 
@@ -315,58 +308,5 @@ impl Digits {
             };
         }
         TOO_WIDE
-    }
-}
-
-impl Place {
-    // Writes what comes next; behind a refusal nothing is written.
-    pub fn put(self, octets: &mut [u8], d: Digits) -> Place
-        ensures { written octets.new (as_place result) ≡ next (write_field d.width d.value) (written octets.old (as_place self)) }
-    {
-        if self.halt.is_some() {
-            return self;
-        }
-        let c = Cursor {
-            at: self.at,
-            end: self.end,
-        };
-        match c.store(octets, d.value, d.width) {
-            Ok(()) => Place {
-                at: self.at + d.width,
-                end: self.end,
-                halt: None,
-            },
-            Err(e) => Place {
-                halt: Some(e),
-                ..self
-            },
-        }
-    }
-
-    // Whether `width` bits are left, in `len` octets; none behind a refusal.
-    pub fn has(self, len: usize, width: usize) -> bool
-        ensures { result ≡ room_for width len (as_place self) }
-    {
-        if self.halt.is_some() {
-            return false;
-        }
-        let c = Cursor {
-            at: self.at,
-            end: self.end,
-        };
-        c.holds(len, width)
-    }
-
-    // A refusal; one that stands already stays as it is.
-    pub fn refuse(self, e: PduParseErr) -> Place
-        ensures { as_place result ≡ refuse e (as_place self) }
-    {
-        if self.halt.is_some() {
-            return self;
-        }
-        Place {
-            halt: Some(e),
-            ..self
-        }
     }
 }

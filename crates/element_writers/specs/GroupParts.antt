@@ -6,7 +6,7 @@ use Rattle.std.specs.Prelude.{Option, None, Some}
 use mathlib.Core.List.{List, [], ◌∷◌, ◌++◌, append_assoc, append-nil}
 use Rattle.bits.specs.Bits.{Bits, digits}
 use Rattle.bits.specs.BitsLaws.{length_digits}
-use Rattle.bits.specs.Written.{Written, joined}
+use Rattle.bits.specs.Written.{Spot, joined}
 use Rattle.bits.specs.PutsLaws.{Puts, ◌⨾◌, joined-append}
 use Rattle.elements.specs.Numbers.{option_bits, flag_width}
 use Rattle.elements.specs.Groups.{Form, form_of, type_of, address_type_width, address_width, address_bits, detachment_width, kind_of, group_bits, class_of_usage_width, uplink_forms, uplink_class, uplink_detachment, uplink_address_in, uplink_bits, downlink_forms, attachment_bits, downlink_attachment, downlink_detachment, downlink_address_in, downlink_bits}
@@ -104,8 +104,8 @@ attachment-length t = refl
 
 module _ {G : Type 0} (parts : G → List Bits) where
   -- one more
-  pub each-one : {w v u : Written} (gs : List G) (i : ℕ) {g : G} → i < length gs → g ≡ get_or gs i g → Puts (each parts (take i gs)) w v → Puts (parts g) v u
-      → Puts (each parts (take (i + 1) gs)) w u
+  pub each-one : {s t u : Spot} (gs : List G) (i : ℕ) {g : G} → i < length gs → g ≡ get_or gs i g → Puts (each parts (take i gs)) s t → Puts (parts g) t u
+      → Puts (each parts (take (i + 1) gs)) s u
   each-one gs i {g} h e p q = rw (each_more parts gs i g h, ← e) (p ⨾ q)
 
   -- they are the bits of each group

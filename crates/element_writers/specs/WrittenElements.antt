@@ -7,13 +7,11 @@ use Rattle.std.proofs.Math.Bool.{true, false, cond}
 use Rattle.std.specs.Prelude.{Option}
 use mathlib.Core.List.{List, [], ◌∷◌, ◌++◌, append_assoc, append-nil}
 use Rattle.std.proofs.Math.ListN.{length, take, length-append}
-use Rattle.bits.specs.PduParseError.{value_too_large}
 use Rattle.bits.specs.Bits.{Bits, bit, digits}
 use Rattle.bits.specs.BitsLaws.{length_digits}
-use Rattle.bits.specs.Placed.{Placed, placed, halted}
-use Rattle.bits.specs.Written.{Written, write, unwritten, written, next, refuse, joined, bits_in, Holds}
+use Rattle.bits.specs.Written.{Spot, joined, bits_in, Holds}
 use Rattle.bits.specs.DigitsLaws.{holds-few}
-use Rattle.bits.specs.PutsLaws.{Puts, one, ◌⨾◌, joined-append}
+use Rattle.bits.specs.PutsLaws.{Puts, ◌⨾◌, joined-append}
 use Rattle.elements.specs.Table.{mbit_width, identifier_width, length_width}
 use Rattle.elements.specs.TableWritten.{element_bits, table_bits}
 use Rattle.elements.specs.Numbers.{held, option_bits, option_all, flag_width, announced}
@@ -26,7 +24,6 @@ use Rattle.element_writers.specs.GroupParts.{each-joined, downlink_parts, downli
 use Rattle.elements.specs.declared.typed_pdu_fields.Type3FieldGeneric.{Type3FieldGeneric}
 use Rattle.elements.specs.declared.typed_pdu_fields.OptionalType3.{OptionalType3}
 use Rattle.elements.specs.declared.group_identity_downlink.OptionalDownlinks.{OptionalDownlinks}
-use Rattle.bits.specs.declared.bitbuffer.Cursor.{Cursor}
 use Rattle.bits.specs.declared.bitbuffer.Digits.{Digits}
 
 -- M-bit 1, identifier, length
@@ -52,31 +49,13 @@ pub element-length : (i : ℕ) (xs : Bits) → length (element_bits i xs) ≡ 16
 element-length i xs =
     ap length (sym (header-content i xs)) ∙ length-append (header_bits i (length xs)) xs ∙ ap (λ (n : ℕ). n + length xs) (header-length i (length xs))
 
--- A TYPE 3 ELEMENT that may be absent: 8 if its data does not fit
+-- AN ELEMENT that may be absent
 abbrev pub optional_bits : {A : Type 0} → ℕ → (A → Bits) → Option A → Bits
 optional_bits i bits o = option_bits (λ a. element_bits i (bits a)) o
 
-unfoldable pub write_type3 : ℕ → OptionalType3 → List ℕ → Cursor → Written
-write_type3 i o os c =
-    cond (option_all type3_fits (type3_held o)) (write (optional_bits i type3_bits (type3_held o)) os c) (unwritten value_too_large os)
-
-module _ (i : ℕ) (o : OptionalType3) where
-  pub type3-there : o.present ≡ true → option_all type3_fits (type3_held o) ≡ true → (os : List ℕ) (a : Placed Unit)
-      → next (write (element_bits i (type3_bits o.value))) (written os a) ≡ next (write_type3 i o) (written os a)
-  unfolding write_type3
-  type3-there p f os (placed z c) = rw (f, p)
-  type3-there p f os (halted n) = refl
-
-  pub type3_large : option_all type3_fits (type3_held o) ≡ false → (os : List ℕ) (a : Placed Unit)
-      → written os (refuse value_too_large a) ≡ next (write_type3 i o) (written os a)
-  unfolding write_type3
-  type3_large f os (placed z c) = rw f
-  type3_large f os (halted n) = refl
-
-  pub type3-absent : o.present ≡ false → (os : List ℕ) (a : Placed Unit) → next (write []) (written os a) ≡ next (write_type3 i o) (written os a)
-  unfolding write_type3
-  type3-absent p os (placed z c) = rw p
-  type3-absent p os (halted n) = refl
+-- a type 3 element: header and data, as two fields
+abbrev pub type3_parts : ℕ → OptionalType3 → List Bits
+type3_parts i o = cond o.present (header_bits i o.value.len ∷ digits o.value.len o.value.«data» ∷ []) []
 
 pub type3-few : (o : OptionalType3) → o.present ≡ true → option_all type3_fits (type3_held o) ≡ true → o.value.len ≤ 64
 unfolding type3_fits
@@ -98,21 +77,18 @@ type3_size_lem i o f = go o.present refl
     go true p = rw (le-leb _ _ (type3-few o p f)) (sym (element-length i (type3_bits o.value) ∙ ap (λ (n : ℕ). 16 + n) (type3-length o.value)))
     go false p = refl
 
--- written where it fits
-pub type3-written : (i : ℕ) (o : OptionalType3) {w v : Written} → option_all type3_fits (type3_held o) ≡ true → v ≡ next (write_type3 i o) w
-    → Puts (optional_bits i type3_bits (type3_held o) ∷ []) w v
-unfolding write_type3
-type3-written i o {w} f e = one _ (e ∙ go w.answer)
-  where
-    go : (a : Placed Unit) → next (write_type3 i o) (written w.octets a) ≡ next (write (optional_bits i type3_bits (type3_held o))) (written w.octets a)
-    go (placed z c) = rw f
-    go (halted n) = refl
-
-pub type3-joined : (i : ℕ) (g : Type3FieldGeneric) → joined (header_bits i g.len ∷ digits g.len g.«data» ∷ []) ≡ element_bits i (type3_bits g)
+pub type3-joined : (i : ℕ) (o : OptionalType3) → joined (type3_parts i o) ≡ optional_bits i type3_bits (type3_held o)
 unfolding joined type3_bits
-type3-joined i g =
-    rw (append-nil (digits g.len g.«data»))
-    (ap (λ (n : ℕ). header_bits i n ++ digits g.len g.«data») (sym (length_digits g.len g.«data»)) ∙ header-content i (digits g.len g.«data»))
+type3-joined i o = go o.present
+  where
+    g : Type3FieldGeneric
+    g = o.value
+
+    go : (p : Bool) → joined (cond p (header_bits i g.len ∷ digits g.len g.«data» ∷ []) []) ≡ optional_bits i type3_bits (held p g)
+    go true =
+        rw (append-nil (digits g.len g.«data»))
+        (ap (λ (n : ℕ). header_bits i n ++ digits g.len g.«data») (sym (length_digits g.len g.«data»)) ∙ header-content i (digits g.len g.«data»))
+    go false = refl
 
 -- ## lists, and the structures that hold one
 
@@ -157,13 +133,13 @@ module _ {G L : Type 0} (k : Groups G L) (parts : G → List Bits) (i : ℕ) whe
   unfoldable pub nested_parts : Bits → ℕ → L → List Bits
   nested_parts xs n l = (xs ++ digits flag_width (bit (k.present l))) ∷ cond (k.present l) (list_parts n l ++ (digits mbit_width 0 ∷ [])) []
 
-  module _ (xs : Bits) (n : ℕ) (l : L) {w v : Written} where
-    pub nested-there : {u x : Written} → k.present l ≡ true → Puts ((xs ++ digits flag_width (bit (k.present l))) ∷ []) w v → Puts (list_parts n l) v u
-        → Puts (digits mbit_width 0 ∷ []) u x → Puts (nested_parts xs n l) w x
+  module _ (xs : Bits) (n : ℕ) (l : L) {s t : Spot} where
+    pub nested-there : {u v : Spot} → k.present l ≡ true → Puts ((xs ++ digits flag_width (bit (k.present l))) ∷ []) s t → Puts (list_parts n l) t u
+        → Puts (digits mbit_width 0 ∷ []) u v → Puts (nested_parts xs n l) s v
     unfolding nested_parts
     nested-there e p q r = rw e (rw e at (p ⨾ (q ⨾ r)))
 
-    pub nested-absent : k.present l ≡ false → Puts ((xs ++ digits flag_width (bit (k.present l))) ∷ []) w v → Puts (nested_parts xs n l) w v
+    pub nested-absent : k.present l ≡ false → Puts ((xs ++ digits flag_width (bit (k.present l))) ∷ []) s t → Puts (nested_parts xs n l) s t
     unfolding nested_parts
     nested-absent e p = rw e (rw e at p)
 

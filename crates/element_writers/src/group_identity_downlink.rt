@@ -1,13 +1,10 @@
 // Group identity downlink (EN 300 392-2, clause 16.10.22).
 ghost use Rattle.std.proofs.Common.{rules};
 ghost use Rattle.std.specs.Prelude.{◌≡◌, refl, ◌≤◌};
-ghost use Rattle.bits.specs.Placed.{as_place};
-ghost use Rattle.bits.specs.Written.{Joined, written};
-ghost use Rattle.bits.specs.PutsLaws.{Puts};
+ghost use Rattle.bits.specs.Written.{Joined};
 ghost use Rattle.element_writers.specs.GroupsAsked.{asked_list};
 ghost use Rattle.element_writers.specs.GroupParts.{attachment-length};
 ghost use Rattle.element_writers.specs.GroupsAsked.{downlink-asked};
-ghost use Rattle.element_writers.specs.WrittenElements.{outer_list_parts};
 ghost use Rattle.elements.specs.Numbers.{option_bits, option_all};
 ghost use Rattle.elements.specs.Groups.{attachment_bits, attachment_fits, downlink_forms, downlink_attachment, downlink_detachment, downlink_address_in};
 ghost use Rattle.elements.specs.Locations.{group_identity_downlink_identifier};
@@ -15,8 +12,8 @@ ghost use Rattle.elements.specs.Lists.{downlinks};
 
 use crate::group_address::GroupsAsked;
 use crate::group_identity_attachment::{attachment_fits, then_attachment};
-use crate::group_list::{ListWriter, put_list};
-use bits::bitbuffer::{Digits, Place};
+use crate::group_list::ListWriter;
+use bits::bitbuffer::Digits;
 use elements::group_address::GroupAddress;
 use elements::group_identity_attachment::GroupIdentityAttachment;
 use elements::group_identity_downlink::{GroupIdentityDownlink, OptionalDownlinks};
@@ -106,14 +103,4 @@ impl ListWriter for OptionalDownlinks {
             _ => 4,
         }
     }
-}
-
-// The list as an outer element, which may be absent; its content has `size` bits.
-pub fn write_downlinks(m: Place, octets: &mut [u8], list: OptionalDownlinks, size: usize) -> Place
-    ensures { Puts (outer_list_parts size list) (written octets.old (as_place m)) (written octets.new (as_place result)) }
-{
-    if list.present {
-        return put_list(m, octets, &list, size);
-    }
-    m
 }

@@ -1,20 +1,16 @@
 // Lists of groups of either kind: what is asked of them, and how they are written.
 ghost use Rattle.std.specs.Prelude.{◌≡◌, ℕ, Bool, List, Option, ◌+◌, ◌*◌, ◌≤◌, take, length};
 ghost use Rattle.bits.specs.Bits.{Bits};
-ghost use Rattle.bits.specs.Placed.{as_place};
-ghost use Rattle.bits.specs.Written.{Joined, Holds, written, bits_in};
-ghost use Rattle.bits.specs.PutsLaws.{Puts};
+ghost use Rattle.bits.specs.Written.{Joined, Holds};
 ghost use Rattle.elements.specs.declared.group_address.GroupAddress.{GroupAddress};
 ghost use Rattle.elements.specs.Numbers.{option_bits, option_all};
 ghost use Rattle.elements.specs.Groups.{Form, form_of, type_of, kind_of};
-ghost use Rattle.elements.specs.Lists.{each};
 ghost use Rattle.element_writers.specs.GroupsAsked.{asked_parts, asked_of, asked_each, asked_list};
-ghost use Rattle.element_writers.specs.GroupParts.{group_front, group_back, group_parts};
-ghost use Rattle.element_writers.specs.WrittenElements.{list_parts, nested_parts};
+ghost use Rattle.element_writers.specs.GroupParts.{group_front, group_back};
 
 use crate::group_address::{GroupsAsked, NO_GROUPS, address_fits, address_size, count_asked};
-use crate::typed_pdu_fields::{ask_type2, element_header, then_if, width_if};
-use bits::bitbuffer::{Digits, NO_DIGITS, Place};
+use crate::typed_pdu_fields::{ask_type2, then_if, width_if};
+use bits::bitbuffer::{Digits, NO_DIGITS};
 use elements::group_address::GroupAddress;
 use elements::group_list::GroupList;
 
@@ -97,7 +93,7 @@ fn kind_of(attached: bool) -> u64
 }
 
 // The bits of a group up to its GSSI.
-fn front<L: ListWriter>(g: L::Group) -> Digits
+pub fn group_front<L: ListWriter>(g: L::Group) -> Digits
     ensures { Holds result (group_front L.bits L.forms (L.attachment g) (L.detachment g) (L.address g)) }
 {
     let attachment = L::attachment(g);
@@ -110,7 +106,7 @@ fn front<L: ListWriter>(g: L::Group) -> Digits
 }
 
 // The bits behind the GSSI.
-fn back(a: GroupAddress) -> Digits
+pub fn group_back(a: GroupAddress) -> Digits
     ensures { Holds result (group_back a) }
 {
     then_if(then_if(NO_DIGITS, a.address_extension, 24), a.vgssi, 24)
@@ -133,25 +129,6 @@ fn ask_group<L: ListWriter>(g: L::Group) -> GroupsAsked
     }
 }
 
-// A group, in two fields.
-fn put<L: ListWriter>(g: L::Group, m: Place, octets: &mut [u8]) -> Place
-    ensures { Puts (group_parts L.bits L.forms L.attachment L.detachment L.address g) (written octets.old (as_place m)) (written octets.new (as_place result)) }
-{
-    let m1 = m.put(octets, front::<L>(g));
-    m1.put(octets, back(L::address(g)))
-}
-
-// Groups, one after the other.
-fn put_groups<L: ListWriter>(m: Place, octets: &mut [u8], groups: &[L::Group]) -> Place
-    ensures { Puts (each (group_parts L.bits L.forms L.attachment L.detachment L.address) groups.now) (written octets.old (as_place m)) (written octets.new (as_place result)) }
-{
-    let mut place = m;
-    for g in groups {
-        place = put::<L>(*g, place, octets);
-    }
-    place
-}
-
 // The questions of groups together.
 fn ask_groups<L: ListWriter>(groups: &[L::Group]) -> GroupsAsked
     requires { length groups.now ≤ 63 }
@@ -172,33 +149,4 @@ pub fn ask_list<L: ListWriter>(list: &L) -> GroupsAsked
         return count_asked(list.count()).and(ask_groups::<L>(list.groups()));
     }
     NO_GROUPS
-}
-
-// The list as an element, `size` being the length of its content.
-pub(crate) fn put_list<L: ListWriter>(m: Place, octets: &mut [u8], list: &L, size: usize) -> Place
-    ensures { Puts (list_parts L.kind (group_parts L.bits L.forms L.attachment L.detachment L.address) L.IDENTIFIER size list.now) (written octets.old (as_place m)) (written octets.new (as_place result)) }
-{
-    let h = element_header(L::IDENTIFIER, size);
-    let m1 = m.put(octets, h.then(list.count() as u64, 6));
-    put_groups::<L>(m1, octets, list.groups())
-}
-
-// A structure that holds the list: what stands before, the O-bit, and if it is present the list and the closing M-bit.
-pub(crate) fn put_nested<L: ListWriter>(
-    m: Place,
-    octets: &mut [u8],
-    front: Digits,
-    list: &L,
-    size: usize,
-) -> Place
-    requires { front.width ≤ 63 }
-    ensures { Puts (nested_parts L.kind (group_parts L.bits L.forms L.attachment L.detachment L.address) L.IDENTIFIER (bits_in front) size list.now) (written octets.old (as_place m)) (written octets.new (as_place result)) }
-{
-    let listed = list.presence();
-    let m1 = m.put(octets, front.then(listed as u64, 1));
-    if listed {
-        let m2 = put_list(m1, octets, list, size);
-        return m2.put(octets, NO_DIGITS.then(0, 1));
-    }
-    m1
 }

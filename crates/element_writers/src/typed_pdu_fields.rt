@@ -1,15 +1,13 @@
 // Numbers that may be absent, and the typed elements of annex E, as they are written: type 2 and type 3.
 ghost use Rattle.std.specs.Prelude.{◌≡◌, ℕ, Option, cond, ◌+◌, ◌≤◌};
-ghost use Rattle.bits.specs.Placed.{as_place};
 ghost use Rattle.bits.specs.Bits.{digits};
-ghost use Rattle.bits.specs.Written.{Joined, Holds, written, next};
+ghost use Rattle.bits.specs.Written.{Joined, Holds};
 ghost use Rattle.elements.specs.Numbers.{in_u8, in_u64, option_bits, option_all, in_width, type2_bits};
 ghost use Rattle.elements.specs.Generics.{type3_fits, type4_fits};
 ghost use Rattle.elements.specs.Kinds.{type3_held, type4_held};
-ghost use Rattle.element_writers.specs.WrittenElements.{header_bits, write_type3, type3_size};
+ghost use Rattle.element_writers.specs.WrittenElements.{header_bits, type3_size};
 
-use bits::bitbuffer::{Digits, NO_DIGITS, Place, within};
-use bits::pdu_parse_error::PduParseErr;
+use bits::bitbuffer::{Digits, NO_DIGITS, within};
 use elements::typed_pdu_fields::{OptionalType3, OptionalType4, OptionalU8, OptionalU64};
 
 // A number that may be absent, as an option or as a record for C holds it.
@@ -83,7 +81,7 @@ pub fn ask_type2<H: Held>(o: H, width: usize) -> bool
 }
 
 // What stands before the content of a type 3 or type 4 element: M-bit 1, identifier, length.
-pub(crate) fn element_header(identifier: u8, size: usize) -> Digits
+pub fn element_header(identifier: u8, size: usize) -> Digits
     ensures { Holds result (header_bits identifier size) }
 {
     NO_DIGITS
@@ -113,24 +111,6 @@ pub fn type4_fits(o: OptionalType4) -> bool
         return (g.len <= 64) & (within(g.data, g.len) & within(g.elems as u64, 6));
     }
     true
-}
-
-// A type 3 element that may be absent; 8 if its data does not fit.
-pub fn write_type3_generic(m: Place, octets: &mut [u8], identifier: u8, o: OptionalType3) -> Place
-    ensures { written octets.new (as_place result) ≡ next (write_type3 identifier o) (written octets.old (as_place m)) }
-{
-    if o.present {
-        if type3_fits(o) {
-            let g = o.value;
-            if m.has(octets.len(), 16 + g.len) {
-                let m1 = m.put(octets, element_header(identifier, g.len));
-                return m1.put(octets, NO_DIGITS.then(g.data, g.len));
-            }
-            return m.refuse(PduParseErr::WindowTooShort);
-        }
-        return m.refuse(PduParseErr::ValueTooLarge);
-    }
-    m
 }
 
 // How many bits a type 3 element that may be absent has; none where it is longer than 64 bits, which is not written.

@@ -10,6 +10,7 @@ use borrow.Author.Tests.{not-true}
 use Rattle.bits.specs.Bits.{Bits, bit, digits}
 use Rattle.bits.specs.BitsLaws.{length_digits}
 use Rattle.bits.specs.Written.{joined}
+use Rattle.bits.specs.PutsLaws.{joined-append}
 use Rattle.elements.specs.Numbers.{held, option_all, in_width, in_u64, flag_width, type2_bits}
 use Rattle.elements.proofs.NumbersLaws.{both, one_bit}
 use Rattle.elements.specs.EnergySaving.{saving_bits}
@@ -20,7 +21,7 @@ use Rattle.elements.specs.Kinds.{row, of_location_accept, is_type3, is_type4, is
 use Rattle.elements.specs.declared.group_identity_location_accept.OptionalLocationAccept.{OptionalLocationAccept}
 use Rattle.elements.specs.declared.typed_pdu_fields.OptionalType3.{OptionalType3}
 use Rattle.elements.specs.declared.typed_pdu_fields.OptionalType4.{OptionalType4}
-use Rattle.element_writers.specs.WrittenElements.{optional_bits, type3_size, type3_size_lem}
+use Rattle.element_writers.specs.WrittenElements.{optional_bits, type3_parts, type3-joined, type3_size, type3_size_lem}
 use Rattle.element_writers.specs.SavingAsked.{saving_asked}
 use Rattle.element_writers.specs.LocationAsked.{accept_location_asked, accept_location_parts, location_accept-joined}
 use Rattle.element_writers.specs.declared.group_address.LocationAsked.{LocationAsked}
@@ -73,7 +74,7 @@ accept_second o =
 -- the list's content has m bits, the location accept's n
 abbrev pub accept_behind : AcceptOptions → OptionalType3 → ℕ → ℕ → OptionalLocationAccept → List Generic → List Bits
 accept_behind o s m n l gs =
-    addresses_bits o.ssi o.address_extension ∷ accept_second o ∷ generic_bits 3 s ∷ (accept_location_parts m n l ++ generics_parts gs)
+    addresses_bits o.ssi o.address_extension ∷ accept_second o ∷ (type3_parts 3 s ++ (accept_location_parts m n l ++ generics_parts gs))
 
 pub record AcceptGenerics (s : OptionalType3) (gs : List Generic) : Type 0 where
   pub security : fits3 s ≡ true
@@ -248,10 +249,17 @@ module _ (d : DLocationUpdateAccept) {a : LocationAsked} (asked : a ≡ accept_l
   unfolding accept_asked
   no_related = not-true _ (both (not d.new_registered_area.present) _ type3-only).1
 
-  elements-joined : generic_bits 3 d.security_downlink ++ joined (location_parts ++ generics) ≡ table
+  abbrev security : List Bits
+  security = type3_parts 3 d.security_downlink
+
+  security-joined : joined (security ++ (location_parts ++ generics)) ≡ generic_bits 3 d.security_downlink ++ joined (location_parts ++ generics)
+  security-joined = joined-append security (location_parts ++ generics) ∙ ap (λ (xs : Bits). xs ++ joined (location_parts ++ generics)) (type3-joined 3 d.security_downlink)
+
+  elements-joined : joined (security ++ (location_parts ++ generics)) ≡ table
   unfolding table_bits
   elements-joined =
-      ap (λ (xs : Bits). generic_bits 3 d.security_downlink ++ xs)
+      security-joined
+      ∙ ap (λ (xs : Bits). generic_bits 3 d.security_downlink ++ xs)
       (then-generics location_parts (accept_generics_in d) (location_accept-joined location asked))
       ∙ sym (rw (
         type4_slot_lem 2 d.new_registered_area no_area,
@@ -290,8 +298,9 @@ module _ (d : DLocationUpdateAccept) {a : LocationAsked} (asked : a ≡ accept_l
       let s : Bits = generic_bits 3 d.security_downlink in
       omega (
         arith,
-        length-append x (y ++ (s ++ joined (location_parts ++ generics))),
-        length-append y (s ++ joined (location_parts ++ generics)),
+        length-append x (y ++ joined (security ++ (location_parts ++ generics))),
+        length-append y (joined (security ++ (location_parts ++ generics))),
+        ap length security-joined,
         length-append s (joined (location_parts ++ generics)),
         length-append x y,
         type3_size_lem 3 d.security_downlink f.security,

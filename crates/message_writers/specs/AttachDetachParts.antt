@@ -1,5 +1,5 @@
 -- The parts that a D-ATTACH/DETACH GROUP IDENTITY is written in: up to the O-bit, and the listed elements.
-use Rattle.std.specs.Prelude.{ℕ, ◌+◌, ◌≤◌, ◌≡◌, refl, Bool, true, false, cond, not, ◌||◌, option_map}
+use Rattle.std.specs.Prelude.{ℕ, ◌+◌, ◌≤◌, ◌≡◌, refl, Bool, true, cond, not, ◌||◌, option_map}
 use native.Mathlib.Omega.{arith}
 use Rattle.std.proofs.Math.Path.{ap, ap₂}
 use Rattle.std.proofs.Common.{◌∙◌}
@@ -9,11 +9,8 @@ use Rattle.std.proofs.Math.ListN.{length, length-append}
 use Rattle.std.proofs.lemmas.Bool.{not-true}
 use Rattle.bits.specs.Bits.{Bits, bit, digits}
 use Rattle.bits.specs.BitsLaws.{length_digits}
-use Rattle.bits.specs.Placed.{Placed}
-use Rattle.bits.specs.Written.{joined, written}
-use Rattle.bits.specs.WrittenLaws.{Octets}
-use Rattle.bits.specs.PutsLaws.{Puts, ◌⨾◌, joined-append}
-use Rattle.elements.proofs.NumbersLaws.{neither}
+use Rattle.bits.specs.Written.{joined}
+use Rattle.bits.specs.PutsLaws.{joined-append}
 use Rattle.elements.specs.Table.{mbit_width}
 use Rattle.elements.specs.Numbers.{option_all, flag_width}
 use Rattle.elements.specs.Generics.{type3_fits}
@@ -24,7 +21,7 @@ use Rattle.elements.specs.Kinds.{row, of_downlinks, is_type3, is_type4, is_downl
 use Rattle.elements.specs.declared.typed_pdu_fields.OptionalType3.{OptionalType3}
 use Rattle.elements.specs.declared.group_identity_downlink.OptionalDownlinks.{OptionalDownlinks}
 use Rattle.element_writers.specs.GroupsAsked.{asked_list}
-use Rattle.element_writers.specs.WrittenElements.{optional_bits, outer_list_parts, outer_list-joined, type3_size, type3_size_lem}
+use Rattle.element_writers.specs.WrittenElements.{optional_bits, type3_parts, type3-joined, outer_list_parts, outer_list-joined, type3_size, type3_size_lem}
 use Rattle.element_writers.specs.declared.group_address.GroupsAsked.{GroupsAsked}
 use Rattle.messages.specs.Head.{pdu_type_width, d_attach_detach_group_identity_type, any_present}
 use Rattle.messages.specs.AttachDetach.{attach_detach_head_of, attach_detach_table, attach_detach_slots, attach_detach_bits, attach_detach_parts, attach_detach_asked}
@@ -32,7 +29,6 @@ use Rattle.messages.proofs.QuestionsLaws.{each_of}
 use Rattle.messages.specs.declared.d_attach_detach_group_identity.AttachDetachHead.{AttachDetachHead}
 use Rattle.messages.specs.declared.d_attach_detach_group_identity.DAttachDetachGroupIdentity.{DAttachDetachGroupIdentity}
 use Rattle.message_writers.specs.WritesLaws.{generic_bits, kind-slot, type3_slot_lem, type4_slot_lem, slot-present, optional-length, InParts, in_parts_lem}
-use Rattle.message_writers.specs.Parts.{none_there}
 
 -- whether anything follows the O-bit
 abbrev pub attach_detach_more : DAttachDetachGroupIdentity → Bool
@@ -47,25 +43,13 @@ attach_detach_front h =
     (((digits pdu_type_width d_attach_detach_group_identity_type ++ digits flag_width h.group_identity_report) ++ digits flag_width h.group_identity_acknowledgement_request)
     ++ digits flag_width h.group_identity_attach_detach_mode) ++ digits flag_width h.obit
 
--- the two generic elements before the list
-abbrev pub attach_detach_generics : OptionalType3 → OptionalType3 → List Bits
-attach_detach_generics p g = generic_bits 15 p ∷ generic_bits 4 g ∷ []
-
 -- the list's content has n bits
 abbrev pub attach_detach_elements : OptionalType3 → OptionalType3 → ℕ → OptionalDownlinks → List Bits
-attach_detach_elements p g n l = attach_detach_generics p g ++ (outer_list_parts n l ++ (digits mbit_width 0 ∷ []))
+attach_detach_elements p g n l = type3_parts 15 p ++ (type3_parts 4 g ++ (outer_list_parts n l ++ (digits mbit_width 0 ∷ [])))
 
 pub record GenericsFit (p g : OptionalType3) : Type 0 where
   pub first : option_all type3_fits (type3_held p) ≡ true
   pub second : option_all type3_fits (type3_held g) ≡ true
-
--- neither is there
-pub generics-absent : (p g : OptionalType3) {os : List ℕ} {a : Placed Unit} → Octets os → (p.present || g.present) ≡ false
-    → Puts (attach_detach_generics p g) (written os a) (written os a)
-generics-absent p g {os} {a} o h =
-    let x = neither p.present _ h in
-    let e : Puts ([] ∷ []) (written os a) (written os a) = none_there o in
-    rw (x.0, x.1) (e ⨾ e)
 
 front_length : (h : AttachDetachHead) → length (attach_detach_front h) ≡ 8
 unfolding digits
@@ -103,6 +87,15 @@ module _ (d : DAttachDetachGroupIdentity) {a : GroupsAsked} (asked : a ≡ asked
   abbrev elements : List Bits
   elements = attach_detach_elements d.proprietary d.group_report_response a.size d.group_identity_downlink
 
+  abbrev behind : List Bits
+  behind = outer_list_parts a.size d.group_identity_downlink ++ (digits mbit_width 0 ∷ [])
+
+  in-order : joined elements ≡ generic_bits 15 d.proprietary ++ (generic_bits 4 d.group_report_response ++ joined behind)
+  in-order =
+      joined-append (type3_parts 15 d.proprietary) (type3_parts 4 d.group_report_response ++ behind)
+      ∙ ap₂ (λ (xs ys : Bits). xs ++ ys) (type3-joined 15 d.proprietary)
+      (joined-append (type3_parts 4 d.group_report_response) behind ∙ ap (λ (xs : Bits). xs ++ joined behind) (type3-joined 4 d.group_report_response))
+
   elements-joined : joined elements ≡ table_bits identifier_of content_bits attach_detach_table (attach_detach_slots d)
   unfolding joined table_bits
   elements-joined =
@@ -112,7 +105,8 @@ module _ (d : DAttachDetachGroupIdentity) {a : GroupsAsked} (asked : a ≡ asked
         list-slot d.group_identity_downlink,
         type4_slot_lem 12 d.group_identity_security_related_information (not-true _ type3-only),
       )
-      (ap (λ (xs : Bits). generic_bits 15 d.proprietary ++ (generic_bits 4 d.group_report_response ++ xs))
+      (in-order
+      ∙ ap (λ (xs : Bits). generic_bits 15 d.proprietary ++ (generic_bits 4 d.group_report_response ++ xs))
       (joined-append (outer_list_parts a.size d.group_identity_downlink) (digits mbit_width 0 ∷ [])
       ∙ ap₂ (λ (xs ys : Bits). xs ++ ys) (outer_list-joined d.group_identity_downlink (ap (λ (x : GroupsAsked). x.size) asked)) (append-nil (digits mbit_width 0))))
 
@@ -140,6 +134,7 @@ module _ (d : DAttachDetachGroupIdentity) {a : GroupsAsked} (asked : a ≡ asked
       let z : Bits = digits mbit_width 0 in
       omega (
         arith,
+        ap length in-order,
         length-append p (g ++ joined (l ++ (z ∷ []))),
         length-append g (joined (l ++ (z ∷ []))),
         ap length (joined-append l (z ∷ [])),

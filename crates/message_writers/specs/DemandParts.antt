@@ -205,9 +205,6 @@ location-slot : (o : OptionalLocationDemand)
 unfolding content_bits_of
 location-slot o = kind-slot 3 of_location_demand is_location_demand location_demand_bits (λ d. refl) o.present o.value
 
-unlocated : (m n : ℕ) (o : OptionalLocationDemand) → o.present ≡ false → demand_location_parts m n o ≡ []
-unlocated m n o e = rw e
-
 module _ (d : ULocationUpdateDemand) {a : LocationAsked} (asked : a ≡ demand_location_asked d.group_identity_location_demand) where
   abbrev options : DemandOptions
   options = (demand_head_in d).options
@@ -245,12 +242,6 @@ module _ (d : ULocationUpdateDemand) {a : LocationAsked} (asked : a ≡ demand_l
 
   pub demand-in_parts : InParts (demand_front (demand_head_in d)) behind (demand_more d) (demand_bits d)
   demand-in_parts = in_parts_lem (demand_front (demand_head_in d)) behind (demand_more d) behind-joined front-bits
-
-  -- without a location demand
-  pub demand-unlocated : demand_more d ≡ true → location.present ≡ false → joined (demand_front (demand_head_in d) ∷ (demand_options_parts options ++ generics)) ≡ demand_bits d
-  demand-unlocated m p =
-      ap (λ (xs : List Bits). joined (demand_front (demand_head_in d) ∷ (demand_options_parts options ++ (xs ++ generics)))) (sym (unlocated a.list a.content location p))
-      ∙ demand-in_parts.all m
 
   location-length : length (joined location_parts) ≡ cond location.present (16 + a.content) 0
   location-length =

@@ -1,28 +1,26 @@
 -- What two of the messages share as they are written: the two addresses, generic elements in a row; and how long type 2 elements are.
-use Rattle.std.specs.Prelude.{ℕ, ◌+◌, ◌*◌, ◌<◌, ◌≤◌, ◌≡◌, refl, Bool, true, false, cond, List, [], ◌∷◌, ◌++◌, map, length, take, get_or, leb, sum_by}
-use Rattle.std.proofs.Common.{arith, sym, ap, ap₂, ◌∙◌, append-nil, length-append, leb-true}
-use Rattle.std.specs.List.{list_all, list_any}
-use Rattle.std.proofs.lemmas.List.{map_more}
+use Rattle.std.specs.Prelude.{ℕ, ◌+◌, ◌*◌, ◌<◌, ◌≤◌, ◌≡◌, refl, Bool, true, false, cond, List, [], ◌∷◌, ◌++◌, map, length, get_or, leb, sum_by}
+use Rattle.std.proofs.Common.{arith, sym, ap, ap₂, ◌∙◌, append_assoc, append-nil, length-append, leb-true}
+use Rattle.std.specs.List.{list_all}
 use Rattle.std.proofs.lemmas.List.Sums.{sum_by-cons, sum_by-le, AllPass-from_list_all}
 use Rattle.bits.specs.Bits.{Bits, digits}
 use Rattle.bits.specs.BitsLaws.{length_digits}
-use Rattle.bits.specs.Placed.{Placed}
-use Rattle.bits.specs.Written.{Written, written, next, joined}
-use Rattle.bits.specs.WrittenLaws.{Octets}
-use Rattle.bits.specs.PutsLaws.{Puts, ◌⨾◌, nothing, one, write-nothing, joined-append}
+use Rattle.bits.specs.Written.{joined}
+use Rattle.bits.specs.PutsLaws.{joined-append}
 use Rattle.elements.specs.Table.{mbit_width}
 use Rattle.elements.specs.Numbers.{held, option_all, type2_bits, in_u64, flag_width}
-use Rattle.elements.proofs.NumbersLaws.{both, neither}
+use Rattle.elements.proofs.NumbersLaws.{both}
 use Rattle.elements.specs.ClassOfMs.{class_bits, numbers_bits}
 use Rattle.elements.specs.EnergySaving.{saving_bits}
 use Rattle.elements.specs.Generics.{type3_fits}
+use Rattle.elements.specs.Lists.{each}
 use Rattle.elements.specs.TableWritten.{table_bits}
 use Rattle.elements.specs.Kinds.{row, generic_type3, identifier_of, content_bits, type3_held, type3_slot}
 use Rattle.elements.specs.declared.class_of_ms.ClassOfMs.{ClassOfMs}
 use Rattle.elements.specs.declared.energy_saving_information.EnergySavingInformation.{EnergySavingInformation}
 use Rattle.elements.specs.declared.typed_pdu_fields.OptionalU64.{OptionalU64}
 use Rattle.elements.specs.declared.typed_pdu_fields.OptionalType3.{OptionalType3}
-use Rattle.element_writers.specs.WrittenElements.{write_type3, type3_size, type3_size_lem, type3-written}
+use Rattle.element_writers.specs.WrittenElements.{type3_parts, type3-joined, type3_size, type3_size_lem}
 use Rattle.messages.specs.Head.{ssi_width, extension_width}
 use Rattle.message_writers.specs.WritesLaws.{generic_bits, type3_slot_lem}
 use Rattle.message_writers.specs.declared.parts.GenericsAsked.{GenericsAsked}
@@ -39,17 +37,14 @@ fits3 o = option_all type3_fits (type3_held o)
 abbrev pub Generic : Type 0
 Generic = ℕ × OptionalType3
 
-abbrev pub is_there : Generic → Bool
-is_there g = g.1.present
-
 abbrev pub generic_fits : Generic → Bool
 generic_fits g = fits3 g.1
 
 abbrev pub generic_size : Generic → ℕ
 generic_size g = type3_size g.1
 
-abbrev pub generic_part : Generic → Bits
-generic_part g = generic_bits g.0 g.1
+abbrev pub generic_parts : Generic → List Bits
+generic_parts g = type3_parts g.0 g.1
 
 -- whether each fits, and how many bits they have together
 abbrev pub generics_asked : List Generic → GenericsAsked
@@ -57,25 +52,15 @@ generics_asked gs = record { fits = list_all generic_fits gs; size = sum_by gene
 
 -- each of them, and the closing M-bit
 abbrev pub generics_parts : List Generic → List Bits
-generics_parts gs = map generic_part gs ++ (digits mbit_width 0 ∷ [])
+generics_parts gs = each generic_parts gs ++ (digits mbit_width 0 ∷ [])
 
 -- as a table has them
 abbrev pub generics_bits : List Generic → Bits
 generics_bits gs = table_bits identifier_of content_bits (map (λ g. row g.0 generic_type3) gs) (map (λ g. type3_slot g.1) gs)
 
--- an absent element writes nothing
-pub none_there : {os : List ℕ} {a : Placed Unit} → Octets os → Puts ([] ∷ []) (written os a) (written os a)
-none_there {os} {a} o = one [] (write-nothing os a o)
-
--- none of them is there
-pub generics-absent : (gs : List Generic) {os : List ℕ} {a : Placed Unit} → Octets os → list_any is_there gs ≡ false → Puts (map generic_part gs) (written os a) (written os a)
-generics-absent [] o h = nothing
-generics-absent (g ∷ gs) o h = let x = neither (is_there g) _ h in rw x.0 (none_there o ⨾ generics-absent gs o x.1)
-
--- one more of them
-pub one_generic : (gs : List Generic) (i : ℕ) (d : Generic) {w v u : Written} → i < length gs → list_all generic_fits gs ≡ true → Puts (map generic_part (take i gs)) w v
-    → u ≡ next (write_type3 (get_or gs i d).0 (get_or gs i d).1) v → Puts (map generic_part (take (i + 1) gs)) w u
-one_generic gs i d h f p q = rw (map_more generic_part gs i d h) (p ⨾ type3-written _ _ (AllPass-from_list_all generic_fits gs f i d h) q)
+-- each that is written fits
+pub each-fits : (gs : List Generic) (i : ℕ) (d : Generic) → i < length gs → list_all generic_fits gs ≡ true → fits3 (get_or gs i d).1 ≡ true
+each-fits gs i d h f = AllPass-from_list_all generic_fits gs f i d h
 
 -- at most 80 bits each
 type3_most : (o : OptionalType3) → type3_size o ≤ 80
@@ -90,24 +75,24 @@ type3_most o = go o.present (leb o.value.len 64) refl
 pub generics_most : (gs : List Generic) → (generics_asked gs).size ≤ length gs * 80
 generics_most gs = sum_by-le generic_size 80 gs (λ i d h. type3_most (get_or gs i d).1)
 
--- the bits that they and the M-bit have
-generics-length : (gs : List Generic) → (generics_asked gs).fits ≡ true → length (joined (generics_parts gs)) ≡ (generics_asked gs).size + 1
-unfolding joined
-generics-length [] h = omega (arith, length-append (digits mbit_width 0) [], length_digits mbit_width 0)
-generics-length (g ∷ gs) h =
-    let f = both (generic_fits g) _ h in
-    omega (
-      arith,
-      length-append (generic_part g) (joined (generics_parts gs)),
-      type3_size_lem g.0 g.1 f.0,
-      sum_by-cons generic_size g gs,
-      generics-length gs f.1,
-    )
-
 generics-joined : (gs : List Generic) → joined (generics_parts gs) ≡ generics_bits gs
-unfolding joined table_bits
+unfolding joined each table_bits
 generics-joined [] = append-nil (digits mbit_width 0)
-generics-joined (g ∷ gs) = ap₂ (λ (xs ys : Bits). xs ++ ys) (sym (type3_slot_lem g.0 g.1)) (generics-joined gs)
+generics-joined (g ∷ gs) =
+    rw (append_assoc (generic_parts g) (each generic_parts gs) (digits mbit_width 0 ∷ []))
+    (joined-append (generic_parts g) (generics_parts gs) ∙ ap₂ (λ (xs ys : Bits). xs ++ ys) (type3-joined g.0 g.1 ∙ sym (type3_slot_lem g.0 g.1)) (generics-joined gs))
+
+-- the bits that they and the M-bit have
+generics_bits-length : (gs : List Generic) → (generics_asked gs).fits ≡ true → length (generics_bits gs) ≡ (generics_asked gs).size + 1
+unfolding table_bits
+generics_bits-length [] h = length_digits mbit_width 0
+generics_bits-length (g ∷ gs) h =
+    let f = both (generic_fits g) _ h in
+    rw (type3_slot_lem g.0 g.1)
+    (omega (arith, length-append (generic_bits g.0 g.1) (generics_bits gs), type3_size_lem g.0 g.1 f.0, sum_by-cons generic_size g gs, generics_bits-length gs f.1))
+
+generics-length : (gs : List Generic) → (generics_asked gs).fits ≡ true → length (joined (generics_parts gs)) ≡ (generics_asked gs).size + 1
+generics-length gs h = ap length (generics-joined gs) ∙ generics_bits-length gs h
 
 -- BEHIND OTHER PARTS: their bits, and how many
 module _ (before : List Bits) (gs : List Generic) where

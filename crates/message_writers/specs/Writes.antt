@@ -1,7 +1,7 @@
 -- A message written at a cursor: the questions first, then its bits.
 use Rattle.std.specs.Prelude.{ℕ, ◌≡◌, true, List, length, Option, None, Some}
 use Rattle.bits.specs.Bits.{Bits}
-use Rattle.bits.specs.Placed.{Placed, placed, halted, left}
+use Rattle.bits.specs.Placed.{left}
 use Rattle.bits.specs.Written.{Written, write, unwritten}
 use Rattle.bits.specs.declared.pdu_parse_error.PduParseErr.{PduParseErr}
 use Rattle.bits.specs.declared.bitbuffer.Cursor.{Cursor}
@@ -15,11 +15,6 @@ written_by (Some e) xs os c = unwritten e os
 -- A MESSAGE WRITTEN: the first question that is answered with no refuses it; else its bits stand at the cursor
 unfoldable pub write_message : Asked → Bits → List ℕ → Cursor → Written
 write_message a xs os c = written_by (first_no a (length xs) (left (length os) c)) xs os c
-
--- where its first bit stands; nowhere behind a refusal
-abbrev pub begun : Option PduParseErr → Cursor → Placed Unit
-begun None c = placed tt c
-begun (Some e) c = halted e
 
 abbrev pub as_asked : Answers → Asked
 as_asked r = record {

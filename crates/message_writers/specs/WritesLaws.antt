@@ -1,19 +1,20 @@
 -- Laws of a message that is written: the questions by the answers that the code gives, and the bits in parts.
 use Prim.Native.Nat.{ℕ, ◌+◌}
-use Rattle.std.specs.Prelude.{Option, None, Some}
+use Rattle.std.specs.Prelude.{None, Some, Result, Ok, Err}
+use Rattle.std.specs.Result.{result_err}
+use Rattle.std.specs.Prelude.{Result, Err, IsErrAnd}
+use Rattle.std.proofs.lemmas.Result.{err_from_is_err_and}
 use Rattle.bits.specs.declared.pdu_parse_error.PduParseErr.{PduParseErr}
-use Rattle.std.proofs.Common.{arith, sym, ap, ◌∙◌, length-append, le-leb}
+use Rattle.std.proofs.Common.{arith, sym, ap, ◌∙◌, length-append}
 use Rattle.std.specs.Prelude.{◌≡◌, Bool, true, false, cond, ◌&&◌, List, [], ◌∷◌, ◌++◌, length, is_some, option_map}
 use Rattle.std.proofs.Math.Path.{refl}
 use Rattle.std.proofs.Math.Bool.{and_assoc}
 use Rattle.bits.specs.Bits.{Bits, bit}
-use Rattle.bits.specs.Placed.{as_place, left}
-use Rattle.bits.specs.PlacedLaws.{halted-placed}
-use Rattle.bits.specs.Written.{Written, written, joined}
-use Rattle.bits.specs.WrittenLaws.{Octets}
+use Rattle.bits.specs.Placed.{placed, halted, as_moved, left}
+use Rattle.bits.specs.Written.{Spot, spot, written, joined}
+use Rattle.bits.specs.WrittenLaws.{Octets, write-there}
 use Rattle.bits.specs.PutsLaws.{Puts, all-put}
 use Rattle.bits.specs.declared.bitbuffer.Cursor.{Cursor}
-use Rattle.bits.specs.declared.bitbuffer.Place.{Place}
 use Rattle.elements.specs.Numbers.{held, option_bits}
 use Rattle.elements.specs.Generics.{type3_bits}
 use Rattle.elements.specs.TableWritten.{element_bits, slot_bits}
@@ -23,10 +24,13 @@ use Rattle.elements.specs.declared.typed_pdu_fields.OptionalType4.{OptionalType4
 use Rattle.element_writers.specs.WrittenElements.{optional_bits, element-length}
 use Rattle.messages.specs.Questions.{Asked, all_of, first_no}
 use Rattle.messages.proofs.RoundTrip.{Passed, passed}
-use Rattle.message_writers.specs.Writes.{written_by, write_message, begun, as_asked, Answered}
+use Rattle.message_writers.specs.Writes.{write_message, as_asked, Answered}
 use Rattle.message_writers.specs.declared.questions.Answers.{Answers}
 
 -- ## the questions
+
+abbrev pub Verdict : Type 0
+Verdict = Result Unit PduParseErr
 
 first-is : {a : Asked} {xs : Bits} {r : Answers} → Answered a xs r → (room : ℕ) → first_no (as_asked r) r.size room ≡ first_no a (length xs) room
 unfolding first_no
@@ -37,40 +41,37 @@ first-is {a} {xs} {r} q room = ap (λ (b : Asked). first_no b r.size room) q.is 
     go true f false t = rw t
     go false f t e = rw f
 
--- a message begins at a cursor where it passes the questions
-pub record Asking (a : Asked) (xs : Bits) (os : List ℕ) (c : Cursor) (p : Place) : Type 0 where
-  pub begins : as_place p ≡ begun (first_no a (length xs) (left (length os) c)) c
+-- what its answers to the questions say, at a cursor
+pub record Asking (a : Asked) (xs : Bits) (os : List ℕ) (c : Cursor) (v : Verdict) : Type 0 where
+  pub first : result_err v ≡ first_no a (length xs) (left (length os) c)
 
 -- by the answers
-pub asking : {a : Asked} {xs : Bits} {r : Answers} → Answered a xs r → (os : List ℕ) (c : Cursor) (p : Place)
-    → as_place p ≡ begun (first_no (as_asked r) r.size (left (length os) c)) c → Asking a xs os c p
-asking q os c p e = record { begins = e ∙ ap (λ (n : Option PduParseErr). begun n c) (first-is q (left (length os) c)) }
+pub asking : {a : Asked} {xs : Bits} {r : Answers} → Answered a xs r → (os : List ℕ) (c : Cursor) (v : Verdict)
+    → result_err v ≡ first_no (as_asked r) r.size (left (length os) c) → Asking a xs os c v
+asking q os c v e = record { first = e ∙ first-is q (left (length os) c) }
 
-module _ {a : Asked} {xs : Bits} {os : List ℕ} {c : Cursor} {p : Place} (q : Asking a xs os c p) where
-  none_refused : p.halt ≡ None → first_no a (length xs) (left (length os) c) ≡ None
-  none_refused z = go (first_no a (length xs) (left (length os) c)) q.begins
-    where
-      go : (n : Option PduParseErr) → as_place p ≡ begun n c → n ≡ None
-      go None e = refl
-      go (Some n) e = halted-placed (sym (rw z at e))
+module _ {a : Asked} {xs : Bits} {os : List ℕ} {c : Cursor} {v : Verdict} (q : Asking a xs os c v) where
+  none_refused : v ≡ Ok tt → first_no a (length xs) (left (length os) c) ≡ None
+  none_refused z = sym q.first ∙ ap result_err z
 
-  pub all-passed : p.halt ≡ None → Passed a (length xs) (left (length os) c)
+  pub all-passed : v ≡ Ok tt → Passed a (length xs) (left (length os) c)
   all-passed z = passed a (length xs) (left (length os) c) (none_refused z)
 
   -- THE MESSAGE IS WRITTEN, in parts
-  pub message-written : {xss : List Bits} {v : Written} → Octets os → p.halt ≡ None → joined xss ≡ xs → Puts xss (written os (as_place p)) v
-      → v ≡ write_message a xs os c
+  pub message-written : {xss : List Bits} {t : Spot} → Octets os → v ≡ Ok tt → joined xss ≡ xs → Puts xss (spot os c) t
+      → written t.octets (placed tt t.cursor) ≡ write_message a xs os c
   unfolding write_message
-  message-written o z e w =
-      rw (none_refused z) (all-put {b = true} xs o refl (sym (le-leb _ _ (all-passed z).enough)) refl e (rw (q.begins, none_refused z) at w))
+  message-written o z e p =
+      let room = (all-passed z).enough in
+      rw (none_refused z) (ap (λ (t : Spot). written t.octets (placed tt t.cursor)) (all-put xs o e room p) ∙ sym (write-there xs os c room))
 
-  pub message-refused : {k : PduParseErr} → p.halt ≡ Some k → written os (as_place p) ≡ write_message a xs os c
+  message-refused : {k : PduParseErr} → v ≡ Err k → written os (halted k) ≡ write_message a xs os c
   unfolding write_message
-  message-refused n = rw q.begins (go (first_no a (length xs) (left (length os) c)) q.begins)
-    where
-      go : (j : Option PduParseErr) → as_place p ≡ begun j c → written os (begun j c) ≡ written_by j xs os c
-      go None e = halted-placed (rw n at e)
-      go (Some j) e = refl
+  message-refused {k} z = let e : first_no a (length xs) (left (length os) c) ≡ Some k = sym q.first ∙ ap result_err z in rw e
+
+  -- A REFUSAL HANDED UP by `?`
+  pub message-handed_up : {k : PduParseErr} (y : Result Cursor PduParseErr) → v ≡ Err k → IsErrAnd y (λ x. x ≡ k) → written os (as_moved y) ≡ write_message a xs os c
+  message-handed_up y z h = let w = err_from_is_err_and y h in rw (w.1, w.2) (message-refused z)
 
 pub bit-one : (b : Bool) → bit b ≡ 1 → b ≡ true
 bit-one true e = refl

@@ -1,23 +1,22 @@
 // D-ATTACH/DETACH GROUP IDENTITY (EN 300 392-2, clause 16.9.2.1), as it is written.
 ghost use Rattle.std.specs.Prelude.{◌≡◌, true, ◌≤◌};
-ghost use Rattle.bits.specs.Placed.{as_place};
-ghost use Rattle.bits.specs.Written.{written, Holds};
+ghost use Rattle.bits.specs.Placed.{as_moved};
+ghost use Rattle.bits.specs.Written.{written, spot, Holds};
 ghost use Rattle.bits.specs.PutsLaws.{Puts};
 ghost use Rattle.elements.specs.Lists.{downlinks};
 ghost use Rattle.element_writers.specs.GroupsAsked.{asked_list};
 ghost use Rattle.messages.specs.AttachDetach.{attach_detach_bits, attach_detach_asked};
 ghost use Rattle.message_writers.specs.Writes.{write_message, Answered};
-ghost use Rattle.message_writers.specs.AttachDetachParts.{attach_detach_head_in, attach_detach_front, attach_detach_generics, attach_detach_elements, GenericsFit};
+ghost use Rattle.message_writers.specs.AttachDetachParts.{attach_detach_head_in, attach_detach_front, attach_detach_elements, GenericsFit};
 
 use crate::PduWriter;
+use crate::group_identity_downlink::write_downlinks;
 use crate::questions::Answers;
-use bits::bitbuffer::{Cursor, Digits, NO_DIGITS, Place, within};
+use crate::typed_pdu_fields::{write_closing_mbit, write_type3_generic};
+use bits::bitbuffer::{Cursor, Digits, Moved, NO_DIGITS, within};
 use element_writers::group_address::GroupsAsked;
-use element_writers::group_identity_downlink::write_downlinks;
 use element_writers::group_list::ask_list;
-use element_writers::typed_pdu_fields::{
-    type3_fits, type3_size, type4_fits, width_if, write_type3_generic,
-};
+use element_writers::typed_pdu_fields::{type3_fits, type3_size, type4_fits, width_if};
 use elements::group_identity_downlink::OptionalDownlinks;
 use elements::mm_pdu_type_dl::D_ATTACH_DETACH_GROUP_IDENTITY;
 use elements::type34_elem_id_dl::{GROUP_REPORT_RESPONSE, PROPRIETARY};
@@ -77,56 +76,37 @@ fn ask(d: DAttachDetachGroupIdentity, h: AttachDetachHead, list: GroupsAsked) ->
     }
 }
 
-// The two generic elements before the list, if one of them is there.
-fn put_generics(m: Place, octets: &mut [u8], p: OptionalType3, g: OptionalType3) -> Place
-    requires { GenericsFit p g }
-    ensures { Puts (attach_detach_generics p g) (written octets.old (as_place m)) (written octets.new (as_place result)) }
-{
-    if p.present | g.present {
-        let m1 = write_type3_generic(m, octets, PROPRIETARY, p);
-        return write_type3_generic(m1, octets, GROUP_REPORT_RESPONSE, g);
-    }
-    m
-}
-
 // The listed elements, and the closing M-bit; the list's content has `size` bits.
-fn put_elements(
-    m: Place,
+fn write_elements(
+    c: Cursor,
     octets: &mut [u8],
     p: OptionalType3,
     g: OptionalType3,
-    list: OptionalDownlinks,
+    list: &OptionalDownlinks,
     size: usize,
-) -> Place
+) -> Cursor
     requires { GenericsFit p g }
-    ensures { Puts (attach_detach_elements p g size list) (written octets.old (as_place m)) (written octets.new (as_place result)) }
+    ensures { Puts (attach_detach_elements p g size list.now) (spot octets.old c) (spot octets.new result) }
 {
-    let m1 = put_generics(m, octets, p, g);
-    let m2 = write_downlinks(m1, octets, list, size);
-    m2.put(octets, NO_DIGITS.then(0, 1))
+    let c1 = write_type3_generic(c, octets, PROPRIETARY, p);
+    let c2 = write_type3_generic(c1, octets, GROUP_REPORT_RESPONSE, g);
+    let c3 = write_downlinks(c2, octets, list, size);
+    write_closing_mbit(c3, octets)
 }
 
 impl PduWriter for DAttachDetachGroupIdentity {
-    fn to_bitbuf(self, c: Cursor, octets: &mut [u8]) -> Place {
-        let list = self.group_identity_downlink;
-        let a = ask_list(&list);
+    fn to_bitbuf(self, c: Cursor, octets: &mut [u8]) -> Moved {
+        let p = self.proprietary;
+        let g = self.group_report_response;
+        let list = &self.group_identity_downlink;
+        let a = ask_list(list);
         let h = head_of(self);
         let answers = ask(self, h, a);
-        let place = answers.start(c, octets.len());
-        let None = place.halt else {
-            return place;
-        };
-        let m = place.put(octets, front(h));
+        answers.first_no(c, octets.len())?;
+        let c1 = c.put(octets, front(h));
         if h.obit == 1 {
-            return put_elements(
-                m,
-                octets,
-                self.proprietary,
-                self.group_report_response,
-                list,
-                a.size,
-            );
+            return Ok(write_elements(c1, octets, p, g, list, a.size));
         }
-        m
+        Ok(c1)
     }
 }

@@ -1,7 +1,7 @@
 // D-LOCATION UPDATE ACCEPT (EN 300 392-2, clause 16.9.2.7), as it is written.
 ghost use Rattle.std.specs.Prelude.{◌≡◌, ◌≤◌};
-ghost use Rattle.bits.specs.Placed.{as_place};
-ghost use Rattle.bits.specs.Written.{written, Holds};
+ghost use Rattle.bits.specs.Placed.{as_moved};
+ghost use Rattle.bits.specs.Written.{written, spot, Holds};
 ghost use Rattle.bits.specs.PutsLaws.{Puts};
 ghost use Rattle.messages.specs.Questions.{all_of};
 ghost use Rattle.messages.specs.Accept.{accept_more, accept_bits, accept_asked};
@@ -10,14 +10,16 @@ ghost use Rattle.message_writers.specs.Writes.{write_message, Answered};
 ghost use Rattle.message_writers.specs.AcceptParts.{accept_head_in, accept_generics_in, accept_front, accept_second, accept_options_tests, accept_options_size, accept_behind, accept_rest_in, AcceptGenerics, AcceptIs};
 
 use crate::PduWriter;
+use crate::group_identity_location_accept::write_location_accept;
 use crate::parts::{Generics, addresses, ask_generics, write_generics};
 use crate::questions::Answers;
-use bits::bitbuffer::{Cursor, Digits, NO_DIGITS, Place, within};
+use crate::typed_pdu_fields::write_type3_generic;
+use bits::bitbuffer::{Cursor, Digits, Moved, NO_DIGITS, within};
 use element_writers::energy_saving_information::{ask_saving, then_saving};
 use element_writers::group_address::LocationAsked;
-use element_writers::group_identity_location_accept::{ask_location_accept, write_location_accept};
+use element_writers::group_identity_location_accept::ask_location_accept;
 use element_writers::typed_pdu_fields::{
-    ask_type2, then_type2, type3_fits, type3_size, type4_fits, width_if, write_type3_generic,
+    ask_type2, then_type2, type3_fits, type3_size, type4_fits, width_if,
 };
 use elements::group_identity_location_accept::OptionalLocationAccept;
 use elements::mm_pdu_type_dl::D_LOCATION_UPDATE_ACCEPT;
@@ -173,49 +175,39 @@ fn ask(
 }
 
 // The type 2 elements, the listed elements and the closing M-bit.
-fn put_behind(
-    m: Place,
+fn write_behind(
+    c: Cursor,
     octets: &mut [u8],
     o: AcceptOptions,
     security: OptionalType3,
-    location: OptionalLocationAccept,
+    location: &OptionalLocationAccept,
     asked: LocationAsked,
     g: &Generics,
-) -> Place
+) -> Cursor
     requires { AcceptGenerics security g.now }
-    ensures { Puts (accept_behind o security asked.list asked.content location g.now) (written octets.old (as_place m)) (written octets.new (as_place result)) }
+    ensures { Puts (accept_behind o security asked.list asked.content location.now g.now) (spot octets.old c) (spot octets.new result) }
 {
-    let m1 = m.put(octets, addresses(o.ssi, o.address_extension));
-    let m2 = m1.put(octets, second_options(o));
-    let m3 = write_type3_generic(m2, octets, SECURITY_DOWNLINK, security);
-    let m4 = write_location_accept(m3, octets, location, asked.list, asked.content);
-    write_generics(m4, octets, g)
+    let c1 = c.put(octets, addresses(o.ssi, o.address_extension));
+    let c2 = c1.put(octets, second_options(o));
+    let c3 = write_type3_generic(c2, octets, SECURITY_DOWNLINK, security);
+    let c4 = write_location_accept(c3, octets, location, asked.list, asked.content);
+    write_generics(c4, octets, g)
 }
 
 impl PduWriter for DLocationUpdateAccept {
-    fn to_bitbuf(self, c: Cursor, octets: &mut [u8]) -> Place {
+    fn to_bitbuf(self, c: Cursor, octets: &mut [u8]) -> Moved {
         let h = head_of(self);
         let rest = rest_of(self);
-        let location = self.group_identity_location_accept;
+        let security = rest.security_downlink;
+        let location = &self.group_identity_location_accept;
         let asked = ask_location_accept(location);
         let g = generics_of(self);
         let answers = ask(h, rest, location.present, asked, &g);
-        let place = answers.start(c, octets.len());
-        let None = place.halt else {
-            return place;
-        };
-        let m = place.put(octets, front(h));
+        answers.first_no(c, octets.len())?;
+        let c1 = c.put(octets, front(h));
         if h.obit == 1 {
-            return put_behind(
-                m,
-                octets,
-                h.options,
-                rest.security_downlink,
-                location,
-                asked,
-                &g,
-            );
+            return Ok(write_behind(c1, octets, h.options, security, location, asked, &g));
         }
-        m
+        Ok(c1)
     }
 }

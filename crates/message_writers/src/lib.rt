@@ -3,40 +3,45 @@
 
 pub mod d_attach_detach_group_identity;
 pub mod d_location_update_accept;
+mod group_identity_downlink;
+mod group_identity_location_accept;
+mod group_identity_location_demand;
+mod group_list;
 pub mod parts;
 pub mod questions;
+mod typed_pdu_fields;
 pub mod u_location_update_demand;
 
 ghost use Rattle.std.specs.Prelude.{◌≡◌};
-ghost use Rattle.bits.specs.Placed.{as_place};
+ghost use Rattle.bits.specs.Placed.{as_moved};
 ghost use Rattle.bits.specs.PduParseError.{bad_call};
 ghost use Rattle.messages.specs.Calls.{message_of, message_asked, message_bits, writing, writing_of, octets_written};
 ghost use Rattle.bits.specs.Written.{written};
 ghost use Rattle.message_writers.specs.Writes.{write_message};
 ghost use Rattle.message_writers.specs.CallsLaws.{Behind, writing_by};
 
-use bits::bitbuffer::{Cursor, Place};
+use bits::bitbuffer::{Cursor, Moved};
 use bits::pdu_parse_error::PduParseErr;
 use messages::{Message, Pdu, Record, STRICT, Writing, is_good_call, message_named};
 
 // A message that can be written.
 pub trait PduWriter: Pdu {
     // The message, if it passes the questions; a refusal changes nothing.
-    fn to_bitbuf(self, c: Cursor, octets: &mut [u8]) -> Place
-        ensures { written octets.new (as_place result) ≡ write_message (message_asked (message_of Self.TYPE) (Self.of self)) (message_bits (message_of Self.TYPE) (Self.of self)) octets.old c };
+    fn to_bitbuf(self, c: Cursor, octets: &mut [u8]) -> Moved
+        ensures { written octets.new (as_moved result) ≡ write_message (message_asked (message_of Self.TYPE) (Self.of self)) (message_bits (message_of Self.TYPE) (Self.of self)) octets.old c };
 }
 
 // The answer of what was written from `first` on.
-fn answered(first: usize, m: Place) -> Writing
-    requires { Behind first (as_place m) }
-    ensures { result ≡ writing_by first (as_place m) }
+fn answered(first: usize, m: Moved) -> Writing
+    requires { Behind first (as_moved m) }
+    ensures { result ≡ writing_by first (as_moved m) }
 {
-    match m.halt {
-        None => Writing {
+    match m {
+        Ok(c) => Writing {
             verdict: Ok(()),
-            written: m.at - first,
+            written: c.at - first,
         },
-        Some(e) => Writing {
+        Err(e) => Writing {
             verdict: Err(e),
             written: 0,
         },

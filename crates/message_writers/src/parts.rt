@@ -1,12 +1,12 @@
 // What two of the messages share: the two addresses, and generic elements in a row.
-ghost use Rattle.std.specs.Prelude.{◌≡◌, true, ◌≤◌, map};
-ghost use Rattle.bits.specs.Placed.{as_place};
-ghost use Rattle.bits.specs.Written.{written, Holds};
+ghost use Rattle.std.specs.Prelude.{◌≡◌, true, ◌≤◌};
+ghost use Rattle.bits.specs.Written.{spot, Holds};
 ghost use Rattle.bits.specs.PutsLaws.{Puts};
-ghost use Rattle.message_writers.specs.Parts.{addresses_bits, generic_part, generics_asked, generics_parts};
+ghost use Rattle.message_writers.specs.Parts.{addresses_bits, generics_asked, generics_parts};
 
-use bits::bitbuffer::{Digits, NO_DIGITS, Place};
-use element_writers::typed_pdu_fields::{then_type2, type3_fits, type3_size, write_type3_generic};
+use crate::typed_pdu_fields::{write_closing_mbit, write_type3_generic};
+use bits::bitbuffer::{Cursor, Digits, NO_DIGITS};
+use element_writers::typed_pdu_fields::{then_type2, type3_fits, type3_size};
 use elements::typed_pdu_fields::{OptionalType3, OptionalU64};
 
 // SSI and address extension, two type 2 elements.
@@ -39,24 +39,14 @@ pub(crate) fn ask_generics(generics: &Generics) -> GenericsAsked
     }
 }
 
-// Those that are there; that there are none is known by one look.
-fn put_present(m: Place, octets: &mut [u8], generics: &Generics) -> Place
+// They one after the other, and the closing M-bit.
+pub(crate) fn write_generics(c: Cursor, octets: &mut [u8], generics: &Generics) -> Cursor
     requires { (generics_asked generics.now).fits ≡ true }
-    ensures { Puts (map generic_part generics.now) (written octets.old (as_place m)) (written octets.new (as_place result)) }
+    ensures { Puts (generics_parts generics.now) (spot octets.old c) (spot octets.new result) }
 {
-    let mut place = m;
-    if generics.iter().any(|(_, element)| element.present) {
-        for (identifier, element) in generics {
-            place = write_type3_generic(place, octets, *identifier, *element);
-        }
+    let mut place = c;
+    for (identifier, element) in generics {
+        place = write_type3_generic(place, octets, *identifier, *element);
     }
-    place
-}
-
-// The same, and the closing M-bit.
-pub(crate) fn write_generics(m: Place, octets: &mut [u8], generics: &Generics) -> Place
-    requires { (generics_asked generics.now).fits ≡ true }
-    ensures { Puts (generics_parts generics.now) (written octets.old (as_place m)) (written octets.new (as_place result)) }
-{
-    put_present(m, octets, generics).put(octets, NO_DIGITS.then(0, 1))
+    write_closing_mbit(place, octets)
 }

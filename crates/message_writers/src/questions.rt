@@ -1,12 +1,13 @@
 // The questions of a writing call (document 01, 'A writing call'), each over the whole record.
-ghost use Rattle.std.specs.Prelude.{◌≡◌, ℕ, leb};
+ghost use Rattle.std.specs.Prelude.{◌≡◌};
 ghost use Rattle.std.specs.Result.{result_err};
-ghost use Rattle.bits.specs.Placed.{as_place, left};
+ghost use Rattle.bits.specs.Placed.{left};
 ghost use Rattle.messages.specs.Questions.{first_no};
-ghost use Rattle.message_writers.specs.Writes.{as_asked, begun};
+ghost use Rattle.message_writers.specs.Writes.{as_asked};
 
-use bits::bitbuffer::{Cursor, Place};
+use bits::bitbuffer::Cursor;
 use bits::pdu_parse_error::PduParseErr;
+use messages::Verdict;
 
 // The answers to questions 8 to 15, and how many bits the message has.
 #[derive(Clone, Copy)]
@@ -23,9 +24,10 @@ pub struct Answers {
 }
 
 impl Answers {
-    // The first question that is answered with no, if there is one; `room` answers the last one.
-    fn first_no(self, room: bool) -> Result<(), PduParseErr>
-        ensures { (n m : ℕ) → room ≡ leb n m → result_err result ≡ first_no (as_asked self) n m }
+    // The first question that is answered with no, if there is one; the last is whether the message's bits are left at the cursor, in
+    // `len` octets.
+    pub(crate) fn first_no(self, c: Cursor, len: usize) -> Verdict
+        ensures { result_err result ≡ first_no (as_asked self) self.size (left len c) }
     {
         if !self.fits {
             return Err(PduParseErr::ValueTooLarge);
@@ -51,24 +53,9 @@ impl Answers {
         if !self.short {
             return Err(PduParseErr::LengthTooLarge);
         }
-        if !room {
+        if !c.holds(len, self.size) {
             return Err(PduParseErr::WindowTooShort);
         }
         Ok(())
-    }
-
-    // Where the message begins, in `len` octets: at the cursor, or nowhere if a question is answered with no.
-    pub fn start(self, c: Cursor, len: usize) -> Place
-        ensures { as_place result ≡ begun (first_no (as_asked self) self.size (left len c)) c }
-    {
-        let place = Place {
-            at: c.at,
-            end: c.end,
-            halt: None,
-        };
-        let Err(e) = self.first_no(place.has(len, self.size)) else {
-            return place;
-        };
-        place.refuse(e)
     }
 }

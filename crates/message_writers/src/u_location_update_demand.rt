@@ -1,24 +1,23 @@
 // U-LOCATION UPDATE DEMAND (EN 300 392-2, clause 16.9.3.4), as it is written.
-ghost use Rattle.std.specs.Prelude.{◌≡◌, true, false, ◌∷◌, ◌++◌, ◌≤◌};
-ghost use Rattle.bits.specs.Placed.{as_place};
-ghost use Rattle.bits.specs.Written.{written, Holds};
+ghost use Rattle.std.specs.Prelude.{◌≡◌, true, false, ◌≤◌};
+ghost use Rattle.bits.specs.Placed.{as_moved};
+ghost use Rattle.bits.specs.Written.{written, spot, Holds};
 ghost use Rattle.bits.specs.PutsLaws.{Puts};
 ghost use Rattle.messages.specs.declared.u_location_update_demand.ULocationUpdateDemand.{ULocationUpdateDemand};
 ghost use Rattle.messages.specs.Questions.{all_of};
 ghost use Rattle.messages.specs.Demand.{demand_more, demand_bits, demand_asked};
 ghost use Rattle.message_writers.specs.Writes.{write_message, Answered};
-ghost use Rattle.message_writers.specs.Parts.{generics_asked, generics_parts};
-ghost use Rattle.message_writers.specs.DemandParts.{demand_head_in, demand_generics_in, demand_front, demand_first, demand_head_tests, demand_options_tests, demand_options_size, demand_options_parts, demand_behind, DemandIs};
+ghost use Rattle.message_writers.specs.DemandParts.{demand_head_in, demand_generics_in, demand_front, demand_first, demand_head_tests, demand_options_tests, demand_options_size, demand_options_parts, DemandIs};
 
 use crate::PduWriter;
+use crate::group_identity_location_demand::write_location_demand;
 use crate::parts::{Generics, addresses, ask_generics, write_generics};
 use crate::questions::Answers;
-use bits::bitbuffer::{Cursor, Digits, NO_DIGITS, Place, within};
+use bits::bitbuffer::{Cursor, Digits, Moved, NO_DIGITS, within};
 use element_writers::class_of_ms::{class_fits, type2_class};
 use element_writers::group_address::LocationAsked;
-use element_writers::group_identity_location_demand::{ask_location_demand, write_location_demand};
+use element_writers::group_identity_location_demand::ask_location_demand;
 use element_writers::typed_pdu_fields::{ask_type2, then_if, then_type2, width_if};
-use elements::group_identity_location_demand::OptionalLocationDemand;
 use elements::mm_pdu_type_ul::U_LOCATION_UPDATE_DEMAND;
 use elements::type34_elem_id_ul::{
     AUTHENTICATION_UPLINK, EXTENDED_CAPABILITIES, GROUP_REPORT_RESPONSE, PROPRIETARY,
@@ -143,63 +142,32 @@ fn ask(h: DemandHead, located: bool, location: LocationAsked, g: &Generics) -> A
 }
 
 // The type 2 elements.
-fn put_options(m: Place, octets: &mut [u8], o: DemandOptions) -> Place
-    ensures { Puts (demand_options_parts o) (written octets.old (as_place m)) (written octets.new (as_place result)) }
+fn write_options(c: Cursor, octets: &mut [u8], o: DemandOptions) -> Cursor
+    ensures { Puts (demand_options_parts o) (spot octets.old c) (spot octets.new result) }
 {
-    let m1 = m.put(octets, first_options(o));
-    m1.put(octets, addresses(o.ssi, o.address_extension))
+    let c1 = c.put(octets, first_options(o));
+    c1.put(octets, addresses(o.ssi, o.address_extension))
 }
 
-// The whole message, with a location demand.
-fn put_located(
-    m: Place,
-    octets: &mut [u8],
-    h: DemandHead,
-    location: OptionalLocationDemand,
-    asked: LocationAsked,
-    g: &Generics,
-) -> Place
-    requires { (generics_asked g.now).fits ≡ true }
-    ensures { Puts (demand_front h ∷ demand_behind h.options asked.list asked.content location g.now) (written octets.old (as_place m)) (written octets.new (as_place result)) }
-{
-    let m1 = m.put(octets, front(h));
-    let m2 = put_options(m1, octets, h.options);
-    let m3 = write_location_demand(m2, octets, location, asked.list, asked.content);
-    write_generics(m3, octets, g)
-}
-
-// The same without one: no list is looked at.
-fn put_unlocated(m: Place, octets: &mut [u8], h: DemandHead, g: &Generics) -> Place
-    requires { (generics_asked g.now).fits ≡ true }
-    ensures { Puts (demand_front h ∷ (demand_options_parts h.options ++ generics_parts g.now)) (written octets.old (as_place m)) (written octets.new (as_place result)) }
-{
-    let m1 = m.put(octets, front(h));
-    let m2 = put_options(m1, octets, h.options);
-    write_generics(m2, octets, g)
-}
-
-// A message with something behind the O-bit; its location demand is copied only where it is there, before anything is written.
-fn write_more(d: ULocationUpdateDemand, h: DemandHead, c: Cursor, octets: &mut [u8]) -> Place
+// A message with something behind the O-bit.
+fn write_more(d: ULocationUpdateDemand, h: DemandHead, c: Cursor, octets: &mut [u8]) -> Moved
     requires { (h ≡ demand_head_in d) × (demand_more d ≡ true) }
-    ensures { written octets.new (as_place result) ≡ write_message (demand_asked d) (demand_bits d) octets.old c }
+    ensures { written octets.new (as_moved result) ≡ write_message (demand_asked d) (demand_bits d) octets.old c }
 {
-    let location = d.group_identity_location_demand;
+    let location = &d.group_identity_location_demand;
     let asked = ask_location_demand(location);
     let g = generics_of(d);
     let answers = ask(h, location.present, asked, &g);
-    let place = answers.start(c, octets.len());
-    let None = place.halt else {
-        return place;
-    };
-    if location.present {
-        return put_located(place, octets, h, location, asked, &g);
-    }
-    put_unlocated(place, octets, h, &g)
+    answers.first_no(c, octets.len())?;
+    let c1 = c.put(octets, front(h));
+    let c2 = write_options(c1, octets, h.options);
+    let c3 = write_location_demand(c2, octets, location, asked.list, asked.content);
+    Ok(write_generics(c3, octets, &g))
 }
 
 // A message that ends with its O-bit.
-fn write_alone(h: DemandHead, c: Cursor, octets: &mut [u8]) -> Place
-    ensures { (d : ULocationUpdateDemand) → h ≡ demand_head_in d → demand_more d ≡ false → written octets.new (as_place result) ≡ write_message (demand_asked d) (demand_bits d) octets.old c }
+fn write_alone(h: DemandHead, c: Cursor, octets: &mut [u8]) -> Moved
+    ensures { (d : ULocationUpdateDemand) → h ≡ demand_head_in d → demand_more d ≡ false → written octets.new (as_moved result) ≡ write_message (demand_asked d) (demand_bits d) octets.old c }
 {
     let answers = Answers {
         fits: head_fits(h),
@@ -212,15 +180,12 @@ fn write_alone(h: DemandHead, c: Cursor, octets: &mut [u8]) -> Place
         short: true,
         size: 10 + width_if(h.ciphering_parameters.present, 10),
     };
-    let place = answers.start(c, octets.len());
-    let None = place.halt else {
-        return place;
-    };
-    place.put(octets, front(h))
+    answers.first_no(c, octets.len())?;
+    Ok(c.put(octets, front(h)))
 }
 
 impl PduWriter for ULocationUpdateDemand {
-    fn to_bitbuf(self, c: Cursor, octets: &mut [u8]) -> Place {
+    fn to_bitbuf(self, c: Cursor, octets: &mut [u8]) -> Moved {
         let h = head_of(self);
         if h.obit == 1 {
             return write_more(self, h, c, octets);

@@ -5,4 +5,4 @@ use Rattle.element_writers.proofs.group_identity_location_demand.ask_location_de
 
 pub returns-then-o : goal.returns-then-o
 returns-then-o c =
-    rw c.if-o.true (c.location_of.ensures.0 ∙ location_demand-asked c.args.o.value c.ask_list.ensures.0, c.location_of.ensures.1)
+    rw c.if-o.true (c.location_of.ensures.0 ∙ location_demand-asked c.args.o.now.value c.ask_list.ensures.0, c.location_of.ensures.1)

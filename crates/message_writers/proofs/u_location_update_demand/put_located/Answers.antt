@@ -1,8 +1,0 @@
--- `message_writers::u_location_update_demand::put_located` meets its contract. Assumes nothing.
-use Rattle.bits.specs.PutsLaws.{field, ◌⨾◌}
-use Rattle.message_writers.specs.DemandParts.{front-most}
-use Rattle.message_writers.proofs.u_location_update_demand.put_located.Goals as goal
-
-pub returns : goal.returns
-returns c =
-    field c.front.ensures (front-most c.args.h) c.put-m1.ensures ⨾ (c.put_options-m2.ensures ⨾ (c.write_location_demand-m3.ensures ⨾ c.write_generics.ensures))

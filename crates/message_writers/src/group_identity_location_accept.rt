@@ -1,0 +1,30 @@
+// Group identity location accept (EN 300 392-2, clause 16.10.23), as it is written.
+ghost use Rattle.bits.specs.Written.{spot};
+ghost use Rattle.bits.specs.PutsLaws.{Puts};
+ghost use Rattle.element_writers.specs.LocationAsked.{accept_location_parts};
+
+use crate::group_list::write_nested;
+use bits::bitbuffer::Cursor;
+use element_writers::typed_pdu_fields::element_header;
+use elements::group_identity_location_accept::OptionalLocationAccept;
+use elements::type34_elem_id_dl::GROUP_IDENTITY_LOCATION_ACCEPT;
+
+// What this has in common with the demand is in `write_nested`; a trait for the rest would have more lines than it.
+// The element, which may be absent; its list's content has `list` bits, its own `content`.
+pub(crate) fn write_location_accept(
+    c: Cursor,
+    octets: &mut [u8],
+    o: &OptionalLocationAccept,
+    list: usize,
+    content: usize,
+) -> Cursor
+    ensures { Puts (accept_location_parts list content o.now) (spot octets.old c) (spot octets.new result) }
+{
+    if o.present {
+        let h = element_header(GROUP_IDENTITY_LOCATION_ACCEPT, content);
+        let b = h.then(o.value.group_identity_accept_reject as u64, 1);
+        let front = b.then(0, 1);
+        return write_nested(c, octets, front, &o.value.group_identity_downlink, list);
+    }
+    c
+}
