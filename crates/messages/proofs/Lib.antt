@@ -15,4 +15,5 @@ pub mod KindLaws
 pub mod PlacedCalls
 pub mod Demand3Calls
 pub mod RoundTrip
+pub mod ExampleRecords
 pub mod Examples
