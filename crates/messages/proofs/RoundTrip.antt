@@ -2,9 +2,9 @@
 -- bit is kept.
 use Prim.Native.Nat.{ℕ, ◌+◌, ◌-◌, ◌*◌, ◌≤◌}
 use Rattle.std.proofs.Common.{arith, sym, ◌∙◌, length-append, leb-true, le-leb}
-use Rattle.std.specs.Prelude.{◌≡◌, Bool, true, false, cond, ◌&&◌, List, ◌++◌, length, take, drop, leb, eqb}
+use Rattle.std.specs.Prelude.{◌≡◌, Bool, true, false, cond, ◌&&◌, List, ◌++◌, length, leb, eqb}
 use Rattle.std.proofs.Math.Path.{refl, ap}
-use Rattle.bits.specs.Bits.{Bits, bits_of}
+use Rattle.bits.specs.Bits.{Bits}
 use Rattle.bits.specs.Reader.{got}
 use Rattle.bits.specs.Placed.{window}
 use Rattle.bits.specs.Written.{put_bits}
@@ -15,13 +15,13 @@ use Rattle.elements.proofs.NumbersLaws.{both}
 use Rattle.bits.specs.ReaderLaws.{zero_one}
 use Rattle.messages.specs.Questions.{Asked, first_no}
 use Rattle.messages.proofs.Demand3.{strict-skipping}
-use Rattle.messages.specs.Calls.{Message, message_of, format_of, read_message, known, octets_most, good_window, window_of, reading, message_bits, message_asked, message_normal, SameMessage, writing_refusal, writing_of, writing, octets_written}
+use Rattle.messages.specs.Calls.{Message, message_of, format_of, read_message, known, octets_most, good_window, window_of, reading, message_bits, message_asked, message_normal, writing_refusal, writing_of, writing, octets_written}
 use Rattle.messages.proofs.MessageLaws.{FullList}
 use Rattle.messages.proofs.ReadBack.{messages_regular, normal-same, read_back}
 use Rattle.messages.proofs.CallNumbers.{accepted-refused}
 use Rattle.messages.proofs.Demand3Calls.{call_is, window-is}
+use Rattle.messages.specs.RoundTrip.{RoundTrip, reads_back}
 use Rattle.messages.specs.declared.Record.{Record}
-use Rattle.messages.specs.declared.Reading.{Reading}
 use Rattle.messages.specs.declared.Writing.{Writing}
 use Rattle.std.specs.Prelude.{Option, None, Some, Ok}
 use Rattle.bits.specs.PduParseError.{bad_call, value_too_large, ciphering_mismatch, not_one_attachment, address_form_unlisted, stay_alive_with_frame, frame_missing, type4_not_written, length_too_large, window_too_short}
@@ -74,25 +74,6 @@ passed a size room e =
     }
 
 -- ## what was written reads back
-
--- the answer of a reading that gives v from n bits
-abbrev pub reads_back : ℕ → ℕ → Record → Reading
-reads_back first n v = record { verdict = Ok tt; place = first + n; consumed = n; skipped = 0; «record» = v }
-
--- THE ROUND TRIP of a writing call on m, os, first and end that took r and wrote n bits, with the octets os' afterwards
-pub record RoundTrip (m : ℕ) (os : List ℕ) (first end : ℕ) (r : Record) (n : ℕ) (os' : List ℕ) : Type 0 where
-  -- the strict reading of the same window gives a record from exactly the bits written; so does the window of exactly these bits
-  pub strict : reading m 0 os' first end ≡ reads_back first n (message_normal (message_of m) r)
-  pub strict-exact : reading m 0 os' first (first + n) ≡ reads_back first n (message_normal (message_of m) r)
-  -- the skipping reading too, with 0 skipped
-  pub skipping : reading m 1 os' first end ≡ reads_back first n (message_normal (message_of m) r)
-  pub skipping-exact : reading m 1 os' first (first + n) ≡ reads_back first n (message_normal (message_of m) r)
-  -- that record is the same as r: what is present is equal
-  pub same : SameMessage (message_of m) r (message_normal (message_of m) r)
-  -- every bit outside the message is kept
-  pub before : take first (bits_of os') ≡ take first (bits_of os)
-  pub behind : drop (first + n) (bits_of os') ≡ drop (first + n) (bits_of os)
-  pub length-kept : length os' ≡ length os
 
 -- what a writing call that took the record says
 record Took (m : ℕ) (os : List ℕ) (first end : ℕ) (r : Record) (n : ℕ) : Type 0 where
@@ -176,3 +157,9 @@ round_trip m os first end r n ar e =
     answer how h stop k p good rest e l =
         let c : length (ys ++ rest) - length rest ≡ n = omega (arith, length-append ys rest) in
         call_is m how os' first stop k h good ∙ rw (e, reads_back_lem (message_of m) r _ _ ar p (eqb how 1) rest) (rw c)
+
+-- the same of an answer and the octets after it, as a writing call gives them
+pub written_back : (m : ℕ) (os : List ℕ) (first end : ℕ) (r : Record) {w : Writing} {os' : List ℕ} → FullList (message_of m) r
+    → w ≡ writing m os first end r → os' ≡ octets_written m os first end r → w.verdict ≡ Ok tt → RoundTrip m os first end r w.written os'
+written_back m os first end r {w} ar e h v =
+    rw h (round_trip m os first end r w.written ar (sym e ∙ λ i. record { verdict = v i; written = w.written }))

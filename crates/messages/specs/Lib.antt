@@ -6,3 +6,4 @@ pub mod Accept
 pub mod AttachDetach
 pub mod Calls
 pub mod MessageAnswers
+pub mod RoundTrip
