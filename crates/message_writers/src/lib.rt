@@ -12,10 +12,11 @@ pub mod questions;
 mod typed_pdu_fields;
 pub mod u_location_update_demand;
 
-ghost use Rattle.std.specs.Prelude.{◌≡◌};
+ghost use Rattle.std.specs.Prelude.{◌≡◌, Ok};
 ghost use Rattle.bits.specs.Placed.{as_moved};
 ghost use Rattle.bits.specs.PduParseError.{bad_call};
 ghost use Rattle.messages.specs.Calls.{message_of, message_asked, message_bits, writing, writing_of, octets_written};
+ghost use Rattle.messages.specs.RoundTrip.{RoundTrip};
 ghost use Rattle.bits.specs.Written.{written};
 ghost use Rattle.message_writers.specs.Writes.{write_message};
 ghost use Rattle.message_writers.specs.CallsLaws.{Behind, writing_by};
@@ -74,6 +75,7 @@ pub fn write_as<M: PduWriter>(octets: &mut [u8], c: Cursor, d: M) -> Writing
 pub fn write(octets: &mut [u8], first: usize, end: usize, message: u64, held: Record) -> Writing
     ensures answer { result ≡ writing message octets.old first end held }
     ensures octets { octets.new ≡ octets_written message octets.old first end held }
+    ensures round_trip { result.verdict ≡ Ok tt → RoundTrip message octets.old first end held result.written octets.new }
 {
     let c = Cursor { at: first, end };
     match message_named(message) {
