@@ -18,6 +18,6 @@ pub mod PlacedGroups
 pub mod PlacedLists
 pub mod PlacedLocations
 pub mod Parts
-pub mod EmptyParts
 pub mod EachLaws
 pub mod Tables
+pub mod PlacedPart

@@ -19,8 +19,8 @@ use Rattle.elements.specs.Lists.{Groups, list, list_of, downlinks}
 use Rattle.elements.proofs.ListsLaws.{Sound, list-local}
 use Rattle.elements.specs.Locations.{nested_if, nested}
 use Rattle.elements.proofs.LocationsLaws.{nested-local}
-use Rattle.elements.specs.Kinds.{Kind, of_downlinks, row, Element, is_downlinks, held_element, content_of, identifier_of, content}
-use Rattle.elements.specs.Rows.{empty_table}
+use Rattle.elements.specs.Kinds.{of_downlinks, row, is_downlinks, held_element, content_of, identifier_of, content}
+use Rattle.elements.specs.Rows.{closing_if}
 use Rattle.elements.specs.Fronts.{slot_front}
 use Rattle.elements.specs.GroupAnswers.{nested_slot, nested_slot_if, downlinks_slot, Structures, structure_slot}
 use Rattle.elements.specs.TraitLaws.{Shaped}
@@ -41,13 +41,13 @@ nested_slot_lem {G} {L} k i bs =
     ∙ sym (then-then x _ _)
 
 -- and by the O-bit
-nested-behind : {G L : Type 0} (k : Groups G L) (i : ℕ) (b : Bool) (bs : Bits) → nested_if k i b bs ≡ (nested_slot_if k i b >>= λ l. empty_table b >>= λ z. got l) bs
+nested-behind : {G L : Type 0} (k : Groups G L) (i : ℕ) (b : Bool) (bs : Bits) → nested_if k i b bs ≡ (nested_slot_if k i b >>= λ l. closing_if b >>= λ z. got l) bs
 nested-behind k i true bs = nested_slot_lem k i bs
 nested-behind k i false bs = refl
 
-pub empty_tail : (b : Bool) → Tail (empty_table b)
-empty_tail true = local_tail closing-local
-empty_tail false = search local·rules
+closing_if_tail : (b : Bool) → Tail (closing_if b)
+closing_if_tail true = local_tail closing-local
+closing_if_tail false = search local·rules
 
 module _ {G L : Type 0} (k : Groups G L) (s : Local k.group) (i : ℕ) where
   nested_slot_tail : (b : Bool) → Tail (nested_slot_if k i b)
@@ -61,7 +61,7 @@ module _ {G L : Type 0} (k : Groups G L) (s : Local k.group) (i : ℕ) where
     list_unannounced e = stop _ e
 
     module _ {c₁ : Cursor} {o : ℕ} (e₁ : Gives (field flag_width) os c (placed o c₁)) where
-      behind_obit_lem : {x : Placed L} → Gives (nested_slot_if k i (eqb o 1) >>= λ l. empty_table (eqb o 1) >>= λ z. got l) os c₁ x → Gives (nested k i) os c x
+      behind_obit_lem : {x : Placed L} → Gives (nested_slot_if k i (eqb o 1) >>= λ l. closing_if (eqb o 1) >>= λ z. got l) os c₁ x → Gives (nested k i) os c x
       unfolding nested
       behind_obit_lem g = step _ e₁ (local_tail (field-local flag_width)) (alike _ (nested-behind k i (eqb o 1) (window os c₁)) g)
 
@@ -69,11 +69,11 @@ module _ {G L : Type 0} (k : Groups G L) (s : Local k.group) (i : ℕ) where
       list-refused e = behind_obit_lem (stop _ e)
 
       module _ {l : L} {c₂ : Cursor} (e₂ : Gives (nested_slot_if k i (eqb o 1)) os c₁ (placed l c₂)) where
-        pub list_unclosed : {n : PduParseErr} → Gives (empty_table (eqb o 1)) os c₂ (halted n) → Gives (nested k i) os c (halted n)
+        pub list_unclosed : {n : PduParseErr} → Gives (closing_if (eqb o 1)) os c₂ (halted n) → Gives (nested k i) os c (halted n)
         list_unclosed e = behind_obit_lem (step _ e₂ (nested_slot_tail (eqb o 1)) (stop _ e))
 
-        pub list-closed : {c₃ : Cursor} → Gives (empty_table (eqb o 1)) os c₂ (placed tt c₃) → Gives (nested k i) os c (placed l c₃)
-        list-closed e = behind_obit_lem (step _ e₂ (nested_slot_tail (eqb o 1)) (step _ e (empty_tail (eqb o 1)) done))
+        pub list-closed : {c₃ : Cursor} → Gives (closing_if (eqb o 1)) os c₂ (placed tt c₃) → Gives (nested k i) os c (placed l c₃)
+        list-closed e = behind_obit_lem (step _ e₂ (nested_slot_tail (eqb o 1)) (step _ e (closing_if_tail (eqb o 1)) done))
 
 -- ## a structure of n bits: behind its front, at c₂, the list
 

@@ -16,12 +16,13 @@ use Rattle.bits.specs.PlacedLaws.{Gives, told, told-not, gives-not, step, stop, 
 use Rattle.bits.specs.PlacedTimes.{alike}
 use Rattle.bits.specs.declared.bitbuffer.Cursor.{Cursor}
 use Rattle.elements.specs.Numbers.{flag_width}
-use Rattle.elements.specs.Table.{identifier_width, length_width, Look, outside, ends, opens, look, Header, header, used_of, whole, Piece, piece, onward, pieces, counted, is_listed, slot, slot_at, skip}
+use Rattle.elements.specs.Table.{identifier_width, length_width, Look, outside, ends, opens, look, Header, header, closing}
+use Rattle.elements.specs.Table.{used_of, whole, Piece, piece, onward, pieces, counted, is_listed, slot, slot_at, skip}
 use Rattle.elements.proofs.NumbersLaws.{never}
-use Rattle.elements.proofs.TableLaws.{two_slots, Halts, at_end, at-stop, pieces_unfold, pieces-halts, pieces-got, stands_shrinks, slot_tail, skip_tail}
+use Rattle.elements.proofs.TableLaws.{look_tail, closing-local, two_slots, Halts, at_end, at-stop, pieces_unfold, pieces-halts, pieces-got, stands_shrinks, slot_tail, skip_tail, skip-again}
 use Rattle.elements.specs.Kinds.{Slot, Element, identifier_of, content}
 use Rattle.elements.proofs.KindsLaws.{content-local}
-use Rattle.elements.specs.Rows.{sized, skipping, generic_row, generic_in, generic_slot, generics, slots_in}
+use Rattle.elements.specs.Rows.{follows_at, element_follows, sized, skipping, generic_row, generic_in, generic_slot, generics, slots_in}
 use Rattle.elements.specs.Answers.{opening}
 use Rattle.elements.specs.Fronts.{slot_front}
 use Rattle.elements.specs.declared.typed_pdu_fields.Generic.{Generic}
@@ -46,7 +47,7 @@ abbrev headed : ℕ → ℕ → Header
 headed i n = record { identifier = i; size = n }
 
 -- what the look sees where the opening gives an identifier or none
-abbrev pub looking : Option ℕ → Look
+abbrev looking : Option ℕ → Look
 looking None = ends
 looking (Some i) = opens i
 
@@ -55,9 +56,10 @@ record Opened (bs : Bits) (o : Option ℕ) (rest : Bits) : Type 0 where
   looks : look bs ≡ looking o
   heads : (i : ℕ) → o ≡ Some i → header bs ≡ (field length_width >>= λ n. got (headed i n)) rest
   less : length rest < length bs
+  closes : o ≡ None → closing bs ≡ got tt rest
 
 opened : (bs : Bits) {o : Option ℕ} {rest : Bits} → opening bs ≡ got o rest → Opened bs o rest
-unfolding look header
+unfolding look header closing
 opened bs {o} {rest} e = split-then (field flag_width bs) _ e (λ m mid p q. go m mid p (field_lt flag_width bs p) q)
   where
     shorter : (m : ℕ) (mid : Bits) → field flag_width bs ≡ got m mid → length mid < length bs
@@ -71,6 +73,7 @@ opened bs {o} {rest} e = split-then (field flag_width bs) _ e (λ m mid p q. go 
           looks = rw p;
           heads = λ i t. zero_one (cc);
           less = shorter zero mid p;
+          closes = λ t. rw p;
         })
     go (suc zero) mid p l q = split-then (field identifier_width mid) _ q (λ i end p' q'.
         let h : Some i ≡ o = cc in
@@ -80,6 +83,7 @@ opened bs {o} {rest} e = split-then (field flag_width bs) _ e (λ m mid p q. go 
           looks = rw p (rw p');
           heads = λ j t. let same : i ≡ j = cc in rw p (rw (p', same));
           less = omega (arith, shorter 1 mid p, g.enough, ap length g.left, length-drop identifier_width mid);
+          closes = λ t. zero_one (cc);
         }))
     go (suc (suc m)) mid p l q = absurd (omega arith)
 
@@ -101,16 +105,13 @@ opening-outside bs {n} e = first (field flag_width bs) refl e
     first (got m mid) p e = go m mid p (field_lt flag_width bs p) e
     first (refused k) p e = let h : k ≡ n = cc in (rw p, sym h ∙ field-refused flag_width bs p)
 
-pub opening_unseen : {os : List ℕ} {c : Cursor} {n : PduParseErr} → Gives opening os c (halted n) → look (window os c) ≡ outside
-opening_unseen {os} {c} e = (opening-outside (window os c) (told-not e)).0
-
 module _ {os : List ℕ} {c k : Cursor} {o : Option ℕ} (e : Gives opening os c (placed o k)) where
   -- what it tells at a cursor
   at-opening : Opened (window os c) o (window os k)
   at-opening = opened (window os c) (told opening_tail e).said
 
   -- what the look sees there
-  pub opening-looks : look (window os c) ≡ looking o
+  opening-looks : look (window os c) ≡ looking o
   opening-looks = at-opening.looks
 
   -- the place moves, and less is left
@@ -123,6 +124,32 @@ module _ {os : List ℕ} {c k : Cursor} {o : Option ℕ} (e : Gives opening os c
     where
       then_is : {y : Answer (Option ℕ)} → y ≡ got o (window os k) → then y (λ o. r') ≡ r' (window os k)
       then_is p = rw p
+
+-- ## whether an element follows
+
+module _ {os : List ℕ} {c : Cursor} where
+  pub follows-unseen : {n : PduParseErr} → Gives opening os c (halted n) → Gives (element_follows true) os c (halted n)
+  unfolding element_follows
+  follows-unseen e = let l = opening-outside (window os c) (told-not e) in gives-not (rw (l.0, l.1))
+
+  module _ {k : Cursor} {o : Option ℕ} (e : Gives opening os c (placed o k)) where
+    pub follows-not : o ≡ None → Gives (element_follows true) os c (placed false k)
+    unfolding element_follows
+    follows-not p = behind e (got false) (rw (opening-looks e, p, (at-opening e).closes p)) done
+
+    pub follows_there : {i : ℕ} → o ≡ Some i → Gives (element_follows true) os c (placed true c)
+    unfolding element_follows
+    follows_there p = alike (got true) (rw (opening-looks e, p)) done
+
+pub follows_tail : (m : Bool) → Tail (element_follows m)
+unfolding element_follows
+follows_tail true = look_tail follows_at go
+  where
+    go : (l : Look) → Tail (follows_at l)
+    go outside = search local·rules
+    go ends = search (local·rules, closing-local)
+    go (opens i) = search local·rules
+follows_tail false = search local·rules
 
 -- an identifier compared with another
 pub same-as : (o : Option ℕ) {i : ℕ} → true ≡ option_eq nat_eq o (Some i) → o ≡ Some i
@@ -314,11 +341,12 @@ module _ (table : List Slot) (b : Bool) where
   abbrev pub resumed : List Generic → ℕ → ℕ → List Row → Reader Slots
   resumed gs i n rs = generics table rs b >>= λ x. got (slots_in gs i (counted (n + x.skipped) x.value))
 
-  pub resumed-start : (gs : List Generic) (i : ℕ) (rs : List Row) (bs : Bits) → filled gs i rs bs ≡ resumed gs i 0 rs bs
-  resumed-start gs i rs bs = then_same (generics table rs b bs) (λ x rest. let h : 0 + x.skipped ≡ x.skipped = omega arith in rw h)
-
   pub skipping_tail : Tail (skipping table b)
   skipping_tail = skip_tail (is_listed identifier_of table) b
+
+  -- behind the elements that were skipped none is
+  pub skipped_again : {os : List ℕ} {c j : Cursor} {m : ℕ} → Gives (skipping table b) os c (placed m j) → Gives (skipping table b) os j (placed 0 j)
+  skipped_again {os} {c} e = alike (got 0) (skip-again (is_listed identifier_of table) b (window os c) (told skipping_tail e).said) done
 
   module _ (gs : List Generic) (i n : ℕ) (r : Row) (rs : List Row) where
     -- one slot, whose value goes into the array, and the others
@@ -354,3 +382,14 @@ module _ (table : List Slot) (b : Bool) where
         pub resumed-on : {g : Generic} {k : Cursor} → Gives (generic_slot r) os j (placed g k)
             → at (resumed gs i n all) os c ≡ at (resumed (set gs i g) (i + 1) (n + m) rs) os k
         resumed-on f = (turns (step _ e skipping_tail (step _ f (generic_slot_tail r) (record { eq = refl })))).eq
+
+        -- what was skipped is counted, and the place is behind it
+        pub resumed_skipped : at (resumed gs i n all) os c ≡ at (resumed gs i (n + m) all) os j
+        resumed_skipped =
+            let z : n + m + 0 ≡ n + m = omega arith in
+            let g : Gives (turn gs i (n + m) r rs) os j (at (generic_slot r >>= λ g. resumed (set gs i g) (i + 1) (n + m) rs) os j)
+            = step _ (skipped_again e) skipping_tail (rw z (record { eq = refl })) in
+            let others : Gives (resumed gs i (n + m) all) os j (at (generic_slot r >>= λ g. resumed (set gs i g) (i + 1) (n + m) rs) os j)
+            = rw q (alike (turn gs i (n + m) r rs) (turn_is gs i (n + m) r rs (window os j)) g) in
+            (turns (step _ e skipping_tail (record { eq = refl }))).eq
+            ∙ sym others.eq

@@ -10,7 +10,7 @@ use Rattle.std.proofs.Math.ListN.{length}
 use Rattle.bits.specs.PduParseError.{buffer_ended, invalid_trailing_mbit_value}
 use Rattle.bits.specs.Bits.{Bits}
 use Rattle.bits.specs.Reader.{Answer, got, refused, Reader, then, ◌>>=◌, field, pass, unless, Used, Local, Tail}
-use Rattle.bits.specs.ReaderLaws.{zero_one, refused-got, split-then, local-more, local·rules, field-local, got-local, refused-local, bind_local, bind_tail}
+use Rattle.bits.specs.ReaderLaws.{zero_one, refused-got, then-then, split-then, local-more, local·rules, field-local, got-local, refused-local, bind_local, bind_tail}
 use Rattle.elements.specs.Table.{mbit_width, identifier_width, length_width, Look, outside, ends, opens, seen, looked, look, Header, header, closing, used_of, whole, Piece, piece, next_if, next_at_lem, next, onward, many_of, many, pieces, Counted, counted, element, slot_if, slot_at, slot, skip, is_listed, scan}
 use Rattle.bits.specs.declared.pdu_parse_error.PduParseErr.{PduParseErr}
 
@@ -20,7 +20,7 @@ ends-outside e = zero_one (cc)
 opens-outside : {P : Type 0} {i : ℕ} → opens i ≡ outside → P
 opens-outside e = zero_one (cc)
 
-pub ends-opens : {P : Type 0} {i : ℕ} → ends ≡ opens i → P
+ends-opens : {P : Type 0} {i : ℕ} → ends ≡ opens i → P
 ends-opens e = zero_one (cc)
 
 -- ## the look
@@ -71,7 +71,7 @@ look_sees r sr = record {
   inside = λ bs. (sr (look bs)).inside bs;
 }
 
-look_tail : {A : Type 0} (r : Look → Reader A) → ((l : Look) → Tail (r l)) → Tail (λ bs. r (look bs) bs)
+pub look_tail : {A : Type 0} (r : Look → Reader A) → ((l : Look) → Tail (r l)) → Tail (λ bs. r (look bs) bs)
 look_tail r tr = record { at = λ bs. (tr (look bs)).at bs }
 
 bind_sees : {A B : Type 0} (r : Reader A) (f : A → Reader B) → Sees r → ((a : A) → Local (f a)) → Sees (r >>= f)
@@ -311,7 +311,7 @@ module _ (stop : ℕ → Bool) where
   pieces-halts bs (at-stop i l t) = pieces_unfold bs ∙ rw l (rw t)
 
   -- nothing is skipped where they end
-  pub skip-halts : (b : Bool) (bs : Bits) → Halts stop (look bs) → skip stop b bs ≡ got 0 bs
+  skip-halts : (b : Bool) (bs : Bits) → Halts stop (look bs) → skip stop b bs ≡ got 0 bs
   skip-halts true bs h = rw (pieces-halts bs h)
   skip-halts false bs h = refl
 
@@ -347,6 +347,17 @@ module _ (stop : ℕ → Bool) where
           rw (← n) (record { mid = mid; stands = g.0; on = g.1; others = rw h at x }))
       go (refused n) q e = refused-got e
 
+  -- behind those that were passed none stands
+  pieces-ended : (ps : List Piece) (bs rest : Bits) → pieces stop bs ≡ got ps rest → Halts stop (look rest)
+  pieces-ended [] bs rest e = let g = pieces-got bs e in rw g.1 g.0
+  pieces-ended (p ∷ ps) bs rest e = let m = pieces-got bs e in pieces-ended ps m.mid rest m.others
+
+  pub skip-again : (b : Bool) (bs : Bits) {n : ℕ} {rest : Bits} → skip stop b bs ≡ got n rest → skip stop b rest ≡ got 0 rest
+  skip-again true bs {n} {rest} e = split-then (pieces stop bs) _ e (λ ps mid p q.
+      let same : mid ≡ rest = cc in
+      skip-halts true rest (pieces-ended ps bs rest (rw same at p)))
+  skip-again false bs e = refl
+
   pieces_tail : Tail (pieces stop)
   unfolding pieces
   pieces_tail =
@@ -379,21 +390,24 @@ module _ {S A : Type 0} (identifier : S → ℕ) (content : S → ℕ → Reader
       let g : counted (0 + y.skipped) (a ∷ y.value) ≡ x = cc in
       rw (← g) (omega (arith, scan-strict listed ss r p'))))
 
-  -- before the closing M-bit nothing is skipped, and no slot holds anything
-  pub scan-empty : (listed : ℕ → Bool) (b : Bool) (ss : List S) (bs : Bits) {rest : Bits} → closing bs ≡ got tt rest
-      → scan identifier content listed b ss bs ≡ got (counted 0 (map (λ s. None) ss)) rest
+  -- where nothing is seen the first question is refused
+  pub scan-unseen : (listed : ℕ → Bool) (b : Bool) (s : S) (ss : List S) (bs : Bits) → look bs ≡ outside → scan identifier content listed b (s ∷ ss) bs ≡ refused buffer_ended
   unfolding scan
-  scan-empty listed b ss bs {rest} e = go ss
-    where
-      l : look bs ≡ ends
-      l = closing-ends bs e
+  scan-unseen listed true s ss bs l = rw (pieces_unfold listed bs) (rw l)
+  scan-unseen listed false s ss bs l = rw l
 
+  -- before an M-bit of 0 nothing is skipped, and no slot holds anything
+  pub scan-empty : (listed : ℕ → Bool) (b : Bool) (ss : List S) (bs : Bits) → look bs ≡ ends
+      → scan identifier content listed b ss bs ≡ then (closing bs) (λ z. got (counted 0 (map (λ s. None) ss)))
+  unfolding scan
+  scan-empty listed b ss bs l = go ss
+    where
       skipped : skip listed b bs ≡ got 0 bs
       skipped = skip-halts listed b bs (at_end l)
 
-      go : (ss : List S) → scan identifier content listed b ss bs ≡ got (counted 0 (map (λ s. None) ss)) rest
-      go [] = rw (skipped, e)
-      go (s ∷ ss) = rw (skipped, l, go ss)
+      go : (ss : List S) → scan identifier content listed b ss bs ≡ then (closing bs) (λ z. got (counted 0 (map (λ s. None) ss)))
+      go [] = rw skipped
+      go (s ∷ ss) = rw (skipped, l, go ss) (then-then (closing bs) _ _)
 
 -- ## what holds of each value that a content gives
 

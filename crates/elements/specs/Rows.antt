@@ -1,9 +1,11 @@
 -- A message's table as the code holds it, and its generic slots as the code reads them.
-use Rattle.std.specs.Prelude.{ℕ, ◌+◌, ◌-◌, min, Bool, true, false, cond, not, ◌&&◌, List, [], ◌∷◌, map, take, drop, replicate}
-use Rattle.std.specs.Prelude.{Option}
+use Rattle.std.specs.Prelude.{ℕ, ◌+◌, ◌-◌, min, Bool, true, false, cond, nat_eq, List, [], ◌∷◌, map, take, drop, replicate}
+use Rattle.std.specs.Prelude.{Option, Some}
+use Rattle.std.specs.Option.{option_eq}
 use Rattle.std.proofs.lemmas.List.Edits.{sets}
-use Rattle.bits.specs.Reader.{Reader, got, ◌>>=◌, field}
-use Rattle.elements.specs.Table.{length_width, Look, outside, ends, opens, Counted, counted, closing, is_listed, skip, slot}
+use Rattle.bits.specs.PduParseError.{buffer_ended}
+use Rattle.bits.specs.Reader.{Reader, got, refused, then, ◌>>=◌, field}
+use Rattle.elements.specs.Table.{length_width, Look, outside, ends, opens, look, Counted, counted, closing, is_listed, skip, slot}
 use Rattle.elements.specs.Generics.{type3, type4}
 use Rattle.elements.specs.Kinds.{Kind, generic_type3, generic_type4, of_location_demand, of_location_accept, of_downlinks, Slot, row, Element, held_element, identifier_of, content}
 use Rattle.elements.specs.declared.typed_pdu_fields.OptionalType3.{OptionalType3}
@@ -41,10 +43,20 @@ skipping table = skip (is_listed identifier_of table)
 abbrev pub table_end : List Slot → Bool → Reader ℕ
 table_end table b = skipping table b >>= λ n. closing >>= λ z. got n
 
--- the end of a table that holds nothing, if there is a table
-abbrev pub empty_table : Bool → Reader Unit
-empty_table true = closing
-empty_table false = got tt
+-- the closing M-bit, where there is one
+abbrev pub closing_if : Bool → Reader Unit
+closing_if true = closing
+closing_if false = got tt
+
+abbrev pub follows_at : Look → Reader Bool
+follows_at outside bs = refused buffer_ended
+follows_at ends bs = then (closing bs) (λ z. got false)
+follows_at (opens i) bs = got true bs
+
+-- whether an element follows, by the look: none where the O-bit announces none, and none before the closing M-bit, which is passed
+unfoldable pub element_follows : Bool → Reader Bool
+element_follows true bs = follows_at (look bs) bs
+element_follows false bs = got false bs
 
 -- ## generic slots
 
@@ -84,6 +96,10 @@ generic_row r = row r.identifier (cond (is_type4 r.kind) generic_type4 generic_t
 abbrev pub generic_in : Row → Option Element → Generic
 generic_in r o = cond (is_type4 r.kind) (from_type4 (held_element o).type4) (from_type3 (held_element o).type3)
 
+-- the content of a slot from its length on, as the code holds it
+unfoldable pub generic_content : Row → Reader Generic
+generic_content r = sized (content (generic_row r)) >>= λ a. got (generic_in r (Some a))
+
 unfoldable pub generic_slot : Row → Reader Generic
 generic_slot r = slot identifier_of content (generic_row r) >>= λ o. got (generic_in r o)
 
@@ -115,8 +131,6 @@ unfoldable pub part : List Slot → List Row → Bool → Bool → ℕ → Reade
 part table rs last b from =
     generics table rs b >>= λ x. behind_part last table b >>= λ n. got (slots_in no_generics from (counted (x.skipped + n) x.value))
 
--- whether the look sees an element that is listed, but not in the rows of a part
-abbrev pub elsewhere : List Slot → List Row → Look → Bool
-elsewhere table rs outside = false
-elsewhere table rs ends = false
-elsewhere table rs (opens i) = is_listed identifier_of table i && not (is_listed identifier_of (map row_of rs) i)
+-- whether what stands behind the M-bit is the identifier of a row
+abbrev pub opened_by : Option ℕ → Row → Bool
+opened_by o r = option_eq nat_eq o (Some r.identifier)

@@ -6,7 +6,7 @@ ghost use Rattle.elements.specs.Lists.{Groups, Made, entries_most, list_of};
 ghost use Rattle.elements.specs.Locations.{nested};
 ghost use Rattle.elements.specs.GroupAnswers.{list_answer, nested_slot_if};
 
-use crate::typed_pdu_fields::{Judged, read_empty_table, read_list_front};
+use crate::typed_pdu_fields::{Judged, read_closing_mbit_if, read_list_front};
 use bits::bitbuffer::{Cursor, Read};
 use bits::pdu_parse_error::PduParseErr;
 
@@ -106,7 +106,7 @@ pub(crate) fn read_nested<L: GroupList>(c: Cursor, octets: &[u8], identifier: u8
     let Ok(c2) = v else {
         return r;
     };
-    let e = read_empty_table(c2, octets, obit == 1);
+    let e = read_closing_mbit_if(c2, octets, obit == 1);
     let Ok(c3) = e else {
         return refused(e.unwrap_err());
     };

@@ -1,13 +1,15 @@
 // Numbers and elements that may be absent, and the typed elements of annex E: type 2, type 3 and type 4, a table of listed
 // identifiers, and the unlisted ones that the skipping reading passes.
-ghost use Rattle.std.specs.Prelude.{◌≡◌, ◌-◌, ◌≤◌, true, option_map, length, Some, None};
+ghost use Rattle.std.specs.Prelude.{◌≡◌, true, option_map, Some, None};
+ghost use Rattle.std.specs.List.{position_or_len};
 ghost use Rattle.bits.specs.Reader.{word, optional};
-ghost use Rattle.bits.specs.Placed.{window, at, as_by, as_read, as_moved, halted};
+ghost use Rattle.bits.specs.Placed.{at, as_by, as_read, as_moved, halted};
 ghost use Rattle.elements.specs.Numbers.{u8_of, in_u8, u64_of, in_u64, type2};
 ghost use Rattle.elements.specs.Generics.{kept};
-ghost use Rattle.elements.specs.Table.{look, closing, is_listed};
+ghost use Rattle.elements.specs.Table.{closing, is_listed};
 ghost use Rattle.elements.specs.Kinds.{identifier_of};
-ghost use Rattle.elements.specs.Rows.{rows_of, slots_from, elsewhere, skipping, table_end, empty_table, behind_part, part, sized, generic_type3_at, generic_type4_at, generic_slot, type3_from, type4_from};
+ghost use Rattle.elements.specs.Rows.{rows_of, slots_from, skipping, table_end, closing_if, element_follows, behind_part, part};
+ghost use Rattle.elements.specs.Rows.{sized, generic_type3_at, generic_type4_at, generic_content, opened_by, type3_from, type4_from};
 ghost use Rattle.elements.specs.Answers.{opening, slots_answer};
 ghost use Rattle.elements.specs.Fronts.{slot_front, list_front};
 
@@ -115,14 +117,28 @@ pub fn read_closing_mbit(c: Cursor, octets: &[u8]) -> Moved
     Err(PduParseErr::InvalidTrailingMbitValue)
 }
 
-// Past the end of a table that holds nothing, if there is a table.
-pub fn read_empty_table(c: Cursor, octets: &[u8], there: bool) -> Moved
-    ensures { as_moved result ≡ at (empty_table there) octets.now c }
+// The same where there is one.
+pub fn read_closing_mbit_if(c: Cursor, octets: &[u8], there: bool) -> Moved
+    ensures { as_moved result ≡ at (closing_if there) octets.now c }
 {
     if there {
         return read_closing_mbit(c, octets);
     }
     Ok(c)
+}
+
+// Whether an element follows: an O-bit of 0 says that none does, and an M-bit of 0, which is passed, closes a table without elements.
+pub fn element_follows(c: Cursor, octets: &[u8], announced: bool) -> Read<bool>
+    ensures { as_read result ≡ at (element_follows announced) octets.now c }
+{
+    if announced {
+        let (id, c1) = peek_type34_mbit_and_id(c, octets)?;
+        return match id {
+            Some(_) => Ok((true, c)),
+            None => Ok((false, c1)),
+        };
+    }
+    Ok((false, c))
 }
 
 // A type 3 element: its declared length, and its first 64 bits as a number.
@@ -363,18 +379,14 @@ pub fn skip_if(c: Cursor, octets: &[u8], table: &[Row], wanted: bool) -> Skipped
     Ok((0, c))
 }
 
-// One slot that holds a generic element.
-fn read_generic_slot(c: Cursor, octets: &[u8], row: Row) -> Read<Generic>
-    ensures { as_read result ≡ at (generic_slot row) octets.now c }
+// The generic element of a slot, from its length on.
+fn parse_generic(c: Cursor, octets: &[u8], row: Row) -> Read<Generic>
+    ensures { as_read result ≡ at (generic_content row) octets.now c }
 {
-    let (id, c1) = peek_type34_mbit_and_id(c, octets)?;
-    if id == Some(row.identifier) {
-        return match row.kind {
-            Kind::Type4 => parse_type4_generic(c1, octets),
-            _ => parse_type3_generic(c1, octets),
-        };
+    match row.kind {
+        Kind::Type4 => parse_type4_generic(c, octets),
+        _ => parse_type3_generic(c, octets),
     }
-    Ok((ABSENT, c))
 }
 
 // A verdict and a value in one struct, where arrays occur: behind a refusal the value is the absent one.
@@ -433,63 +445,19 @@ fn part_of(table: &[Row], from: usize, to: usize) -> &[Row]
     &table[from.min(end)..end]
 }
 
-// A part of a table, slot by slot: its slots, which hold generic elements and of which the first is the table's `from`, and what is
-// passed behind them.
-fn scan_slots(
-    c: Cursor,
-    octets: &[u8],
-    table: &[Row],
-    slots: &[Row],
-    from: usize,
-    last: bool,
-    wanted: bool,
-) -> Judged<Slots>
-    requires { (length slots.now ≤ 8 - from) }
-    ensures { result ≡ slots_answer (at (part (rows_of table.now) slots.now last wanted from) octets.now c) }
+// How many slots stand before the first one that an element's identifier opens: all of them where it opens none, and before an M-bit
+// of 0.
+fn slots_before(slots: &[Row], id: Option<u8>) -> usize
+    ensures { result ≡ position_or_len (opened_by id) slots.now }
 {
-    let mut generics = NO_GENERICS;
-    let mut place = c;
-    let mut n: usize = 0;
-    for (i, row) in slots.iter().enumerate() {
-        let s = skip_if(place, octets, table, wanted);
-        let Ok((m, c1)) = s else {
-            return refused(s.unwrap_err());
-        };
-        let g = read_generic_slot(c1, octets, *row);
-        let Ok((element, c2)) = g else {
-            return refused(g.unwrap_err());
-        };
-        generics[from + i] = element;
-        n += m;
-        place = c2;
-    }
-    let b = read_behind(place, octets, table, last, wanted);
-    let Ok((k, c3)) = b else {
-        return refused(b.unwrap_err());
-    };
-    Judged {
-        verdict: Ok(c3),
-        value: Slots {
-            skipped: n + k,
-            generics,
-        },
-    }
+    slots
+        .iter()
+        .position(|row| id == Some(row.identifier))
+        .unwrap_or(slots.len())
 }
 
-// Whether an element stands here that is listed, but not in a part of the table.
-fn is_elsewhere(c: Cursor, octets: &[u8], table: &[Row], slots: &[Row]) -> bool
-    ensures { result ≡ elsewhere (rows_of table.now) slots.now (look (window octets.now c)) }
-{
-    let Ok((id, _)) = peek_type34_mbit_and_id(c, octets) else {
-        return false;
-    };
-    match id {
-        Some(identifier) => is_listed(table, identifier) & !is_listed(slots, identifier),
-        None => false,
-    }
-}
-
-// The same part. Where the table ends, or an element of another part stands, it holds nothing and no slot is looked at.
+// A part of a table: its slots, which hold generic elements, and what is passed behind them. Each element is looked at once and goes
+// to its own slot; the slots before that one hold nothing.
 pub fn scan_part(
     c: Cursor,
     octets: &[u8],
@@ -502,18 +470,41 @@ pub fn scan_part(
     ensures { result ≡ slots_answer (at (part (rows_of table.now) (slots_from table.now from to) last wanted from) octets.now c) }
 {
     let slots = part_of(table, from, to);
-    if last {
-        if let Ok(c1) = read_closing_mbit(c, octets) {
-            return Judged {
-                verdict: Ok(c1),
-                value: NO_SLOTS,
-            };
-        }
-    } else if is_elsewhere(c, octets, table, slots) {
-        return Judged {
-            verdict: Ok(c),
-            value: NO_SLOTS,
+    let mut generics = NO_GENERICS;
+    let mut place = c;
+    let mut n: usize = 0;
+    let mut i: usize = 0;
+    while i < slots.len() {
+        let s = skip_if(place, octets, table, wanted);
+        let Ok((m, c1)) = s else {
+            return refused(s.unwrap_err());
         };
+        let l = peek_type34_mbit_and_id(c1, octets);
+        let Ok((id, c2)) = l else {
+            return refused(l.unwrap_err());
+        };
+        n += m;
+        place = c1;
+        i += slots_before(&slots[i..], id);
+        if i < slots.len() {
+            let g = parse_generic(c2, octets, slots[i]);
+            let Ok((element, c3)) = g else {
+                return refused(g.unwrap_err());
+            };
+            generics[from + i] = element;
+            place = c3;
+            i += 1;
+        }
     }
-    scan_slots(c, octets, table, slots, from, last, wanted)
+    let b = read_behind(place, octets, table, last, wanted);
+    let Ok((k, c4)) = b else {
+        return refused(b.unwrap_err());
+    };
+    Judged {
+        verdict: Ok(c4),
+        value: Slots {
+            skipped: n + k,
+            generics,
+        },
+    }
 }

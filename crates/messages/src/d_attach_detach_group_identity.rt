@@ -20,8 +20,7 @@ use elements::type34_elem_id_dl::{
     PROPRIETARY,
 };
 use elements::typed_pdu_fields::{
-    Generic, Kind, NO_GENERICS, OptionalType3, OptionalType4, Row, read_closing_mbit,
-    read_empty_table, scan_part,
+    Generic, Kind, NO_GENERICS, OptionalType3, OptionalType4, Row, element_follows, scan_part,
 };
 
 // What stands before the listed elements: the fields up to the O-bit, and the O-bit.
@@ -146,43 +145,39 @@ impl Pdu for DAttachDetachGroupIdentity {
         let Ok((head, c1)) = h else {
             return unread(h.unwrap_err());
         };
-        let e = read_empty_table(c1, octets, head.obit == 1);
-        let Ok(c2) = e else {
-            let a = scan_part(c1, octets, &TABLE, 0, 2, false, skipping);
-            let v = a.verdict;
-            let Ok(c3) = v else {
-                return unread(v.unwrap_err());
-            };
-            let d = read_list_slot(c3, octets, true, GROUP_IDENTITY_DOWNLINK);
-            let w = d.verdict;
-            let Ok(c4) = w else {
-                return unread(w.unwrap_err());
-            };
-            let front = a.value;
-            let before = front.generics;
-            let list = d.value;
-            let z = read_closing_mbit(c4, octets);
-            let Ok(c5) = z else {
-                let b = scan_part(c4, octets, &TABLE, 3, 4, true, skipping);
-                let x = b.verdict;
-                let Ok(c6) = x else {
-                    return unread(x.unwrap_err());
-                };
-                let back = b.value;
-                let behind = back.generics;
-                return MessageRead {
-                    verdict: Ok((front.skipped + back.skipped, c6)),
-                    record: record_of(head, list, before, behind),
-                };
-            };
-            return MessageRead {
-                verdict: Ok((front.skipped, c5)),
-                record: record_of(head, list, before, NO_GENERICS),
-            };
+        let e = element_follows(c1, octets, head.obit == 1);
+        let Ok((more, c2)) = e else {
+            return unread(e.unwrap_err());
         };
+        if !more {
+            return MessageRead {
+                verdict: Ok((0, c2)),
+                record: record_of(head, no_list(), NO_GENERICS, NO_GENERICS),
+            };
+        }
+        let a = scan_part(c2, octets, &TABLE, 0, 2, false, skipping);
+        let v = a.verdict;
+        let Ok(c3) = v else {
+            return unread(v.unwrap_err());
+        };
+        let d = read_list_slot(c3, octets, true, GROUP_IDENTITY_DOWNLINK);
+        let w = d.verdict;
+        let Ok(c4) = w else {
+            return unread(w.unwrap_err());
+        };
+        let b = scan_part(c4, octets, &TABLE, 3, 4, true, skipping);
+        let x = b.verdict;
+        let Ok(c5) = x else {
+            return unread(x.unwrap_err());
+        };
+        let front = a.value;
+        let back = b.value;
+        let before = front.generics;
+        let behind = back.generics;
+        let list = d.value;
         MessageRead {
-            verdict: Ok((0, c2)),
-            record: record_of(head, no_list(), NO_GENERICS, NO_GENERICS),
+            verdict: Ok((front.skipped + back.skipped, c5)),
+            record: record_of(head, list, before, behind),
         }
     }
 }

@@ -27,8 +27,8 @@ use elements::type34_elem_id_dl::{
     NEW_REGISTERED_AREA, PROPRIETARY, SECURITY_DOWNLINK,
 };
 use elements::typed_pdu_fields::{
-    Generic, Kind, NO_GENERICS, OptionalType3, OptionalType4, OptionalU64, Row,
-    parse_type2_generic, read_empty_table, scan_part,
+    Generic, Kind, NO_GENERICS, OptionalType3, OptionalType4, OptionalU64, Row, element_follows,
+    parse_type2_generic, scan_part,
 };
 
 // The type 2 elements.
@@ -285,10 +285,13 @@ impl Pdu for DLocationUpdateAccept {
         let Ok((head, c1)) = h else {
             return unread(h.unwrap_err());
         };
-        let e = read_empty_table(c1, octets, head.obit == 1);
-        let Ok(c2) = e else {
-            return read_elements(c1, octets, head, skipping);
+        let e = element_follows(c1, octets, head.obit == 1);
+        let Ok((more, c2)) = e else {
+            return unread(e.unwrap_err());
         };
+        if more {
+            return read_elements(c2, octets, head, skipping);
+        }
         let none = GroupIdentityLocationAccept::none().optional(false);
         MessageRead {
             verdict: Ok((0, c2)),

@@ -25,7 +25,7 @@ use elements::type34_elem_id_ul::{
 };
 use elements::typed_pdu_fields::{
     Generic, Kind, NO_GENERICS, NO_NUMBER, OptionalType3, OptionalU8, OptionalU64, Row,
-    parse_type2_generic, read_empty_table, read_optional, scan_part, skip_if,
+    element_follows, parse_type2_generic, read_optional, scan_part, skip_if,
 };
 
 // The type 2 elements.
@@ -271,10 +271,13 @@ impl Pdu for ULocationUpdateDemand {
         let Ok((head, c1)) = h else {
             return unread(h.unwrap_err());
         };
-        let e = read_empty_table(c1, octets, head.obit == 1);
-        let Ok(c2) = e else {
-            return read_elements(c1, octets, head, skipping);
+        let e = element_follows(c1, octets, head.obit == 1);
+        let Ok((more, c2)) = e else {
+            return unread(e.unwrap_err());
         };
+        if more {
+            return read_elements(c2, octets, head, skipping);
+        }
         let none = GroupIdentityLocationDemand::none().optional(false);
         MessageRead {
             verdict: Ok((0, c2)),

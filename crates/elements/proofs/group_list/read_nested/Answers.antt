@@ -34,7 +34,7 @@ returns-in_default-e g c =
     let k = g.L.GroupList.kind in
     c.refused-in_default-e.ensures ∙ answer (list_answer k)
     (list_unclosed k g.met.L.GroupList.local _ (from c.in-Ok.ensures) (slotted g (goal.at.returns-in_default-e g c).In-Ok-v)
-    (refused_moving c.read_empty_table-e.ensures c.unwrap_err-in_default-e.ensures))
+    (refused_moving c.read_closing_mbit_if-e.ensures c.unwrap_err-in_default-e.ensures))
 
 pub returns : goal.returns
 unfolding word

@@ -2,7 +2,6 @@
 -- parts and its own slot between them. No count overflows: each element skipped is a bit at least. Assumes nothing.
 use mathlib.Core.Path.{◌≡◌, ◌∙◌, refl}
 use native.Mathlib.Omega.{arith}
-use Prim.Native.Nat.{◌+◌}
 use Rattle.bits.specs.ReaderLaws.{local_tail}
 use Rattle.bits.specs.Placed.{placed, at}
 use Rattle.bits.specs.PlacedLaws.{Gives, by, from, refused_by, Fact, fact}
@@ -12,7 +11,7 @@ use Rattle.elements.proofs.Verdicts.{answer, verdict_refused, verdict_to}
 use Rattle.elements.proofs.Parts.{no_front_lem, no_slot, no_back, Each, no_more, one_more, Parts, all_read}
 use Rattle.messages.proofs.AttachDetachLaws.{attach_detach_head-local}
 use Rattle.messages.specs.Calls.{attach_detach_format, of_attach_detach}
-use Rattle.messages.proofs.PlacedMessages.{no_head, none_follow, elements_follow}
+use Rattle.messages.proofs.PlacedMessages.{no_head, no_look, elements_follow, none_follow}
 use Rattle.messages.specs.MessageAnswers.{attach_detach_answer, attach_detach_from}
 use mathlib.Core.Bool.{true, false}
 use Rattle.std.specs.Prelude.{Option}
@@ -21,7 +20,6 @@ use lib.Seq.{sets}
 use Rattle.elements.specs.Kinds.{Element, row, of_downlinks, held_element, identifier_of, content}
 use Rattle.elements.specs.Rows.{part, no_generics}
 use Rattle.elements.proofs.PlacedLocations.{downlinks_slot_lem}
-use Rattle.elements.proofs.EmptyParts.{part-ended}
 use Rattle.elements.specs.declared.typed_pdu_fields.Generic.{Generic}
 use Rattle.elements.specs.declared.typed_pdu_fields.Kind.TheVariants as K
 use Rattle.elements.specs.declared.typed_pdu_fields.Row.{Row}
@@ -31,7 +29,7 @@ use Rattle.messages.specs.AttachDetach.{attach_detach_table, attach_detach_head}
 use Rattle.messages.specs.declared.d_attach_detach_group_identity.AttachDetachHead.{AttachDetachHead}
 use Rattle.messages.specs.declared.Record.{Record}
 use Rattle.messages.proofs.d_attach_detach_group_identity.DAttachDetachGroupIdentityPdu.from_bitbuf.Goals as goal
-use Rattle.messages.proofs.d_attach_detach_group_identity.DAttachDetachGroupIdentityPdu.from_bitbuf.Goals.{After-read_list_slot-d, In-Ok, In-Ok-v, In-Ok-w, In-Ok-x, In-Ok-z, In_default-e}
+use Rattle.messages.proofs.d_attach_detach_group_identity.DAttachDetachGroupIdentityPdu.from_bitbuf.Goals.{After-read_list_slot-d, In-Ok, Else-not-more, In-Ok-v, In-Ok-w, In-Ok-x}
 
 -- the slots before the own one, and those behind it
 abbrev front : List Row
@@ -61,15 +59,16 @@ parts h = record {
 headed : (c : In-Ok) → Gives attach_detach_head c.args.octets.now c.args.c (placed c.in-Ok.head c.in-Ok.c1)
 headed c = from c.in-Ok.ensures
 
--- behind a head that no empty table follows, the answer is that of the elements
-following : (c : In_default-e) → let a = c.args in
-    attach_detach_answer (at (body identifier_of content attach_detach_format a.skipping c.in-Ok.head true) a.octets.now c.in-Ok.c1)
+-- where an element follows, the answer is that of the elements
+following : (c : Else-not-more) → let a = c.args in
+    attach_detach_answer (at (body identifier_of content attach_detach_format a.skipping c.in-Ok.head true) a.octets.now c.in-Ok-e.c2)
     ≡ attach_detach_answer (at (message identifier_of content attach_detach_format a.skipping) a.octets.now a.c)
 following c =
-    answer attach_detach_answer (elements_follow attach_detach_format c.args.skipping (from c.in-Ok.ensures) (local_tail attach_detach_head-local) (from c.in_default-e.ensures) (by refl refl))
+    answer attach_detach_answer (elements_follow attach_detach_format c.args.skipping refl (from c.in-Ok.ensures) (local_tail attach_detach_head-local) (from c.in-Ok-e.ensures)
+    c.if-not-more.false (by refl refl))
 
 -- each part, where it is read
-front_read : (c : In-Ok-v) → Gives (part attach_detach_table front false c.args.skipping 0) c.args.octets.now c.in-Ok.c1 (placed c.scan_part-a.result.value c.in-Ok-v.c3)
+front_read : (c : In-Ok-v) → Gives (part attach_detach_table front false c.args.skipping 0) c.args.octets.now c.in-Ok-e.c2 (placed c.scan_part-a.result.value c.in-Ok-v.c3)
 front_read c = verdict_to _ c.scan_part-a.ensures c.in-Ok-v.is
 
 -- its own slot: a list's slot is the same in a table and inside a structure
@@ -81,22 +80,15 @@ slot_read c =
     let slot : c.read_list_slot-d.result ≡ list_answer downlinks (at (downlinks_slot 7) c.args.octets.now c.in-Ok-v.c3) = rw (downlinks_slot_lem 7) c.read_list_slot-d.ensures in
     verdict_to _ slot c.in-Ok-w.is
 
-back_read : (c : In-Ok-x) → Gives (part attach_detach_table back true c.args.skipping 3) c.args.octets.now c.in-Ok-w.c4 (placed c.scan_part-b.result.value c.in-Ok-x.c6)
+back_read : (c : In-Ok-x) → Gives (part attach_detach_table back true c.args.skipping 3) c.args.octets.now c.in-Ok-w.c4 (placed c.scan_part-b.result.value c.in-Ok-x.c5)
 back_read c = verdict_to _ c.scan_part-b.ensures c.in-Ok-x.is
 
--- the table, of its parts; and where it ends behind the list
+-- the table, of its parts
 unfoldable whole : In-Ok-x → Fact
 unfolding downlinks_slot
 whole c =
     let slot : c.read_list_slot-d.result ≡ list_answer downlinks (at (downlinks_slot 7) c.args.octets.now c.in-Ok-v.c3) = rw (downlinks_slot_lem 7) c.read_list_slot-d.ensures in
     fact (all_read _ c.args.skipping (parts c.in-Ok.head) (verdict_to _ c.scan_part-a.ensures c.in-Ok-v.is) (verdict_to _ slot c.in-Ok-w.is) (back_read c))
-
-unfoldable closed : In-Ok-z → Fact
-unfolding downlinks_slot
-closed c =
-    let slot : c.read_list_slot-d.result ≡ list_answer downlinks (at (downlinks_slot 7) c.args.octets.now c.in-Ok-v.c3) = rw (downlinks_slot_lem 7) c.read_list_slot-d.ensures in
-    fact (all_read _ c.args.skipping (parts c.in-Ok.head) (verdict_to _ c.scan_part-a.ensures c.in-Ok-v.is) (verdict_to _ slot c.in-Ok-w.is)
-    (part-ended _ _ _ _ (from c.in-Ok-z.ensures)))
 
 pub returns-in_default : goal.returns-in_default
 returns-in_default c =
@@ -105,21 +97,21 @@ returns-in_default c =
 pub returns-in_default-v : goal.returns-in_default-v
 returns-in_default-v c =
     c.unread-in_default-v.ensures ∙ answer attach_detach_answer (no_front_lem _ c.args.skipping (parts c.in-Ok.head) (verdict_refused _ c.scan_part-a.ensures c.unwrap_err-in_default-v.ensures))
-    ∙ following ((goal.at.returns-in_default-v c).In_default-e)
+    ∙ following ((goal.at.returns-in_default-v c).Else-not-more)
 
 pub returns-in_default-w : goal.returns-in_default-w
 unfolding downlinks_slot
 returns-in_default-w c =
     c.unread-in_default-w.ensures ∙ answer attach_detach_answer (no_slot _ c.args.skipping (parts c.in-Ok.head) (front_read ((goal.at.returns-in_default-w c).In-Ok-v))
     (verdict_refused _ (slot_ensured ((goal.at.returns-in_default-w c).After-read_list_slot-d)) c.unwrap_err-in_default-w.ensures))
-    ∙ following ((goal.at.returns-in_default-w c).In_default-e)
+    ∙ following ((goal.at.returns-in_default-w c).Else-not-more)
 
 pub returns-in_default-x : goal.returns-in_default-x
 unfolding downlinks_slot
 returns-in_default-x c =
     c.unread-in_default-x.ensures ∙ answer attach_detach_answer (no_back _ c.args.skipping (parts c.in-Ok.head) (front_read ((goal.at.returns-in_default-x c).In-Ok-v))
     (slot_read ((goal.at.returns-in_default-x c).In-Ok-w)) (verdict_refused _ c.scan_part-b.ensures c.unwrap_err-in_default-x.ensures))
-    ∙ following ((goal.at.returns-in_default-x c).In_default-e)
+    ∙ following ((goal.at.returns-in_default-x c).Else-not-more)
 
 pub overflow_add-result : goal.overflow_add-result
 unfolding whole
@@ -127,17 +119,17 @@ overflow_add-result c =
     let most = (whole ((goal.at.overflow_add-result c).In-Ok-x)).holds.most in
     grind arith
 
-pub returns-in_default-z : goal.returns-in_default-z
-unfolding whole
-returns-in_default-z c = rw c.record_of.ensures (answer attach_detach_answer (whole ((goal.at.returns-in_default-z c).In-Ok-x)).holds.is ∙ following ((goal.at.returns-in_default-z c).In_default-e))
-
 pub returns-in_default-e : goal.returns-in_default-e
-unfolding closed
 returns-in_default-e c =
-    let n = c.scan_part-a.result.value.skipped in
-    let all : n + 0 ≡ n = omega arith in
-    rw (c.record_of-in_default-e.ensures, ← all) (answer attach_detach_answer (closed ((goal.at.returns-in_default-e c).In-Ok-z)).holds.is ∙ following ((goal.at.returns-in_default-e c).In_default-e))
+    c.unread-in_default-e.ensures ∙ answer attach_detach_answer (no_look attach_detach_format c.args.skipping refl (headed ((goal.at.returns-in_default-e c).In-Ok))
+    (local_tail attach_detach_head-local) (refused_by c.element_follows-e.ensures c.unwrap_err-in_default-e.ensures))
+
+pub returns-then-not-more : goal.returns-then-not-more
+returns-then-not-more c =
+    rw (c.record_of.ensures, c.no_list.ensures)
+    (answer attach_detach_answer (none_follow attach_detach_format c.args.skipping refl (headed ((goal.at.returns-then-not-more c).In-Ok)) (local_tail attach_detach_head-local)
+    (from c.in-Ok-e.ensures) c.if-not-more.true))
 
 pub returns : goal.returns
-returns c =
-    rw (c.record_of-2.ensures, c.no_list.ensures) (answer attach_detach_answer (none_follow attach_detach_format c.args.skipping (headed ((goal.at.returns c).In-Ok)) (local_tail attach_detach_head-local) (from c.in-Ok-e.ensures)))
+unfolding whole
+returns c = rw c.record_of-2.ensures (answer attach_detach_answer (whole ((goal.at.returns c).In-Ok-x)).holds.is ∙ following ((goal.at.returns c).Else-not-more))

@@ -7,7 +7,7 @@ use Rattle.elements.proofs.Verdicts.{answer}
 use Rattle.messages.specs.Accept.{accept_head}
 use Rattle.messages.specs.Calls.{accept_format}
 use Rattle.messages.proofs.AcceptLaws.{accept_head-local}
-use Rattle.messages.proofs.PlacedMessages.{no_head, elements_follow, none_follow}
+use Rattle.messages.proofs.PlacedMessages.{no_head, no_look, elements_follow, none_follow}
 use Rattle.messages.specs.MessageAnswers.{accept_answer}
 use Rattle.messages.proofs.d_location_update_accept.DLocationUpdateAcceptPdu.from_bitbuf.Goals as goal
 use Rattle.messages.proofs.d_location_update_accept.DLocationUpdateAcceptPdu.from_bitbuf.Goals.{In-Ok}
@@ -22,8 +22,15 @@ returns-in_default c =
 
 pub returns-in_default-e : goal.returns-in_default-e
 returns-in_default-e c =
-    c.read_elements.ensures ∙ answer accept_answer (elements_follow accept_format c.args.skipping (headed ((goal.at.returns-in_default-e c).In-Ok)) (local_tail accept_head-local) (from c.in_default-e.ensures) (by refl refl))
+    c.unread-in_default-e.ensures ∙ answer accept_answer (no_look accept_format c.args.skipping refl (headed ((goal.at.returns-in_default-e c).In-Ok)) (local_tail accept_head-local)
+    (refused_by c.element_follows-e.ensures c.unwrap_err-in_default-e.ensures))
+
+pub returns-then-more : goal.returns-then-more
+returns-then-more c =
+    c.read_elements.ensures ∙ answer accept_answer (elements_follow accept_format c.args.skipping refl (headed ((goal.at.returns-then-more c).In-Ok)) (local_tail accept_head-local)
+    (from c.in-Ok-e.ensures) c.if-more.true (by refl refl))
 
 pub returns : goal.returns
 returns c =
-    rw (c.record_of.ensures, c.optional-none.ensures, c.none.ensures) (answer accept_answer (none_follow accept_format c.args.skipping (headed ((goal.at.returns c).In-Ok)) (local_tail accept_head-local) (from c.in-Ok-e.ensures)))
+    rw (c.record_of.ensures, c.optional-none.ensures, c.none.ensures)
+    (answer accept_answer (none_follow accept_format c.args.skipping refl (headed ((goal.at.returns c).In-Ok)) (local_tail accept_head-local) (from c.in-Ok-e.ensures) c.if-more.false))

@@ -1,6 +1,6 @@
--- `elements::typed_pdu_fields::read_empty_table` meets its contract. Assumes nothing.
+-- `elements::typed_pdu_fields::read_closing_mbit_if` meets its contract. Assumes nothing.
 use Rattle.bits.specs.PlacedLaws.{so, done}
-use Rattle.elements.proofs.typed_pdu_fields.read_empty_table.Goals as goal
+use Rattle.elements.proofs.typed_pdu_fields.read_closing_mbit_if.Goals as goal
 
 pub returns-then-there : goal.returns-then-there
 returns-then-there c =
