@@ -2,7 +2,10 @@
 use Rattle.std.specs.Prelude.{ℕ, zero, suc, ◌+◌, ◌≤◌, ◌<◌, ◌≡◌, slice_index_or, length, Bool, true, false, cond, not, List, [], ◌∷◌, set, drop, replicate}
 use Rattle.std.specs.List.{position_or_len}
 use Rattle.std.specs.Prelude.{Option, None}
-use Rattle.std.proofs.Common.{arith, sym, ap, ◌∙◌, refl, drop-drop}
+use Rattle.std.proofs.Common.{arith, sym, ap, ◌∙◌, refl, drop-drop, length-drop}
+use Rattle.std.proofs.lemmas.Bool.{not-false}
+use Rattle.std.proofs.lemmas.List.{get_or-drop}
+use Rattle.std.proofs.lemmas.List.Sums.{prefix_len_stops}
 use Rattle.bits.specs.Reader.{got}
 use Rattle.bits.specs.Placed.{Placed, placed, halted, at}
 use Rattle.bits.specs.PlacedLaws.{Gives, told, done}
@@ -28,15 +31,6 @@ put-again z (x ∷ xs) (suc i) zero q = ap (λ ys. x ∷ ys) (put-again z xs i z
     none-left zero = refl
     none-left (suc i) = refl
 put-again z (x ∷ xs) (suc i) (suc m) q = ap (λ ys. x ∷ ys) (put-again z xs i m q)
-
--- the first row that passes a test passes it
-at-first : (t : Row → Bool) (rs : List Row) {r : Row} {ss : List Row} → drop (position_or_len t rs) rs ≡ r ∷ ss → t r ≡ true
-at-first t [] {r} {ss} q = cc
-at-first t (x ∷ xs) {r} {ss} q = go (t x) refl (at-first t xs) q
-  where
-    go : (b : Bool) → t x ≡ b → (drop (position_or_len t xs) xs ≡ r ∷ ss → t r ≡ true) → drop (cond (not b) (1 + position_or_len t xs) 0) (x ∷ xs) ≡ r ∷ ss → t r ≡ true
-    go true e others q = let same : x ≡ r = cc in rw same at e
-    go false e others q = let one_more : 1 + position_or_len t xs ≡ suc (position_or_len t xs) = omega arith in others (rw one_more at q)
 
 module _ {os : List ℕ} {c k : Cursor} {o : Option ℕ} (e : Gives opening os c (placed o k)) (r : Row) where
   absent : Gives (got (generic_in r None)) os c (placed no_generic c)
@@ -120,7 +114,9 @@ module _ (table : List Slot) (b : Bool) where
       own = slice_index_or slots (i + p) no_row
 
       opens_own : opened_by o own ≡ true
-      opens_own = at-first (opened_by o) (drop i slots) {r = own} {ss = drop (i + p + 1) slots} (rw (← x.before, drop-drop p i slots) (next-row slots (i + p) there))
+      opens_own =
+          let fits : position_or_len (opened_by o) (drop i slots) < length (drop i slots) = rw (← x.before) (omega (arith, length-drop i slots)) in
+          not-false (opened_by o own) (rw (← x.before, get_or-drop i slots p no_row) at (prefix_len_stops (λ r. not (opened_by o r)) (drop i slots) no_row fits))
 
       own-slot : {y : Placed Generic} → Gives (generic_content own) os k y → Gives (generic_slot own) os j y
       own-slot = slot-opened x.seen own opens_own

@@ -118,7 +118,7 @@ pub fn read_closing_mbit(c: Cursor, octets: &[u8]) -> Moved
 }
 
 // The same where there is one.
-pub fn read_closing_mbit_if(c: Cursor, octets: &[u8], there: bool) -> Moved
+pub(crate) fn read_closing_mbit_if(c: Cursor, octets: &[u8], there: bool) -> Moved
     ensures { as_moved result ≡ at (closing_if there) octets.now c }
 {
     if there {
