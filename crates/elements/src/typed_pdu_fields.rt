@@ -127,7 +127,8 @@ pub(crate) fn read_closing_mbit_if(c: Cursor, octets: &[u8], there: bool) -> Mov
     Ok(c)
 }
 
-// Whether an element follows: an O-bit of 0 says that none does, and an M-bit of 0, which is passed, closes a table without elements.
+// Whether an element follows. An O-bit of 0 announces none; an M-bit of 0, which is passed, closes a table without elements. Before
+// an element the place stays.
 pub fn element_follows(c: Cursor, octets: &[u8], announced: bool) -> Read<bool>
     ensures { as_read result ≡ at (element_follows announced) octets.now c }
 {
@@ -445,8 +446,8 @@ fn part_of(table: &[Row], from: usize, to: usize) -> &[Row]
     &table[from.min(end)..end]
 }
 
-// How many slots stand before the first one that an element's identifier opens: all of them where it opens none, and before an M-bit
-// of 0.
+// How many slots stand before the first one that an element's identifier opens: all of them where it opens none, and where an M-bit
+// of 0 stands.
 fn slots_before(slots: &[Row], id: Option<u8>) -> usize
     ensures { result ≡ position_or_len (opened_by id) slots.now }
 {
@@ -456,8 +457,8 @@ fn slots_before(slots: &[Row], id: Option<u8>) -> usize
         .unwrap_or(slots.len())
 }
 
-// A part of a table: its slots, which hold generic elements, and what is passed behind them. Each element is looked at once and goes
-// to its own slot; the slots before that one hold nothing.
+// A part of a table: its slots, which hold generic elements, and what is passed behind them. One look tells an element's own slot;
+// those before it hold nothing.
 pub fn scan_part(
     c: Cursor,
     octets: &[u8],
