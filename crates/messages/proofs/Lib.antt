@@ -14,6 +14,7 @@ pub mod CallNumbers
 pub mod KindLaws
 pub mod PlacedCalls
 pub mod Demand3Calls
+pub mod FullLists
 pub mod RoundTrip
 pub mod ExampleRecords
 pub mod Examples

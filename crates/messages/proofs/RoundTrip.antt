@@ -5,26 +5,30 @@ use Rattle.std.proofs.Common.{arith, sym, ◌∙◌, length-append, leb-true, le
 use Rattle.std.specs.Prelude.{◌≡◌, Bool, true, false, cond, ◌&&◌, List, ◌++◌, length, leb, eqb}
 use Rattle.std.proofs.Math.Path.{refl, ap}
 use Rattle.bits.specs.Bits.{Bits}
-use Rattle.bits.specs.Reader.{got}
+use Rattle.bits.specs.Reader.{Answer, got, refused}
 use Rattle.bits.specs.Placed.{window}
 use Rattle.bits.specs.Written.{put_bits}
 use Rattle.bits.specs.WrittenLaws.{Writes, window-written, kept-before, kept-behind, length-kept}
-use Rattle.elements.specs.Table.{counted}
+use Rattle.elements.specs.Table.{Counted, counted}
 use Rattle.elements.specs.Kinds.{identifier_of, content}
 use Rattle.elements.proofs.NumbersLaws.{both}
 use Rattle.bits.specs.ReaderLaws.{zero_one}
 use Rattle.messages.specs.Questions.{Asked, first_no}
 use Rattle.messages.proofs.Demand3.{strict-skipping}
-use Rattle.messages.specs.Calls.{Message, message_of, format_of, read_message, known, octets_most, good_window, window_of, reading, message_bits, message_asked, message_normal, writing_refusal, writing_of, writing, octets_written}
+use Rattle.messages.specs.Calls.{Message, message_of, format_of, read_message, known, octets_most, good_window, good_call, window_of, no_reading}
+use Rattle.messages.specs.Calls.{reading_of, reading, message_bits, message_asked, message_normal, writing_refusal, writing_of, writing}
+use Rattle.messages.specs.Calls.{octets_written}
 use Rattle.messages.proofs.MessageLaws.{FullList}
-use Rattle.messages.proofs.ReadBack.{messages_regular, normal-same, read_back}
+use Rattle.messages.proofs.ReadBack.{messages_regular, normal-same, read-own, read_back}
+use Rattle.messages.proofs.FullLists.{read-full}
 use Rattle.messages.proofs.CallNumbers.{accepted-refused}
 use Rattle.messages.proofs.Demand3Calls.{call_is, window-is}
-use Rattle.messages.specs.RoundTrip.{RoundTrip, reads_back}
+use Rattle.messages.specs.RoundTrip.{RoundTrip, Rewritten, reads_back}
 use Rattle.messages.specs.declared.Record.{Record}
 use Rattle.messages.specs.declared.Writing.{Writing}
 use Rattle.std.specs.Prelude.{Option, None, Some, Ok}
-use Rattle.bits.specs.PduParseError.{bad_call, value_too_large, ciphering_mismatch, not_one_attachment, address_form_unlisted, stay_alive_with_frame, frame_missing, type4_not_written, length_too_large, window_too_short}
+use Rattle.bits.specs.PduParseError.{bad_call, value_too_large, ciphering_mismatch, not_one_attachment, address_form_unlisted, stay_alive_with_frame}
+use Rattle.bits.specs.PduParseError.{frame_missing, type4_not_written, length_too_large, window_too_short}
 use Rattle.bits.specs.declared.pdu_parse_error.PduParseErr.{PduParseErr}
 
 -- ## a record that passes the questions
@@ -163,3 +167,36 @@ pub written_back : (m : ℕ) (os : List ℕ) (first end : ℕ) (r : Record) {w :
     → w ≡ writing m os first end r → os' ≡ octets_written m os first end r → w.verdict ≡ Ok tt → RoundTrip m os first end r w.written os'
 written_back m os first end r {w} ar e h v =
     rw h (round_trip m os first end r w.written ar (sym e ∙ λ i. record { verdict = v i; written = w.written }))
+
+-- ## a record that a reading gave
+
+module _ (m how : ℕ) (os : List ℕ) (first end : ℕ) where
+  -- it has full arrays, and is its own normal form
+  record WasRead (r : Record) : Type 0 where
+    full : FullList (message_of m) r
+    own : message_normal (message_of m) r ≡ r
+
+  was-read : (reading m how os first end).verdict ≡ Ok tt → WasRead (reading m how os first end).«record»
+  unfolding reading
+  was-read e = go (good_call m how (length os) first end) e
+    where
+      w : Bits
+      w = window_of os first end
+
+      inner : (x : Answer (Counted Record)) → read_message (message_of m) (eqb how 1) w ≡ x → (reading_of first (length w) x).verdict ≡ Ok tt
+          → WasRead (reading_of first (length w) x).«record»
+      inner (got x rest) p e = record { full = read-full (message_of m) (eqb how 1) w p; own = read-own (message_of m) (eqb how 1) w p }
+      inner (refused k) p e = accepted-refused (sym e)
+
+      go : (b : Bool) → (cond b (reading_of first (length w) (read_message (message_of m) (eqb how 1) w)) (no_reading bad_call first)).verdict ≡ Ok tt
+          → WasRead (cond b (reading_of first (length w) (read_message (message_of m) (eqb how 1) w)) (no_reading bad_call first)).«record»
+      go true e = inner (read_message (message_of m) (eqb how 1) w) refl e
+      go false e = accepted-refused (sym e)
+
+  -- WHAT WAS READ AND IS WRITTEN ELSEWHERE reads back there
+  pub rewritten_back : (out : List ℕ) (out_first out_end : ℕ) {r : Record} {w : Writing} {out' : List ℕ} → r ≡ (reading m how os first end).«record»
+      → w ≡ writing m out out_first out_end r → out' ≡ octets_written m out out_first out_end r
+      → (reading m how os first end).verdict ≡ Ok tt → w.verdict ≡ Ok tt → Rewritten m out out_first out_end r w.written out'
+  rewritten_back out out_first out_end {r} was e h read v =
+      let g = was-read read in
+      record { back = written_back m out out_first out_end r (rw was g.full) e h v; own = rw was g.own }

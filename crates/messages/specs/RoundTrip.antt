@@ -24,3 +24,8 @@ pub record RoundTrip (m : ℕ) (os : List ℕ) (first end : ℕ) (r : Record) (n
   pub before : take first (bits_of os') ≡ take first (bits_of os)
   pub behind : drop (first + n) (bits_of os') ≡ drop (first + n) (bits_of os)
   pub length-kept : length os' ≡ length os
+
+-- the same of a record r that a reading gave: it is its own normal form, so that what reads back is r, field by field
+pub record Rewritten (m : ℕ) (os : List ℕ) (first end : ℕ) (r : Record) (n : ℕ) (os' : List ℕ) : Type 0 where
+  pub back : RoundTrip m os first end r n os'
+  pub own : message_normal (message_of m) r ≡ r
