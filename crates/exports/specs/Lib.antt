@@ -7,3 +7,4 @@ pub mod ReadNumbers
 pub mod Rewrite
 pub mod RewriteLaws
 pub mod RewriteNumbers
+pub mod RewriteBack
