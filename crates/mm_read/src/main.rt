@@ -14,17 +14,17 @@ use call::{Call, Fault, asked_by, octets_word};
 use line::{LINE, Line, NEWLINE};
 use messages::read;
 use std::io;
-use std::io::Read;
+use std::io::{BufWriter, Read, Write};
 use words::{Text, octets_of};
 
-// How much is read at once.
-const PIECE: usize = 4096;
+// How much is read at once, and how much is gathered before it is printed.
+const PIECE: usize = 65536;
 
-fn answer_call(rt: &impl Print, number: u64, call: Call, hex: &Text) -> io::Result<()> {
+fn answer_call(out: &mut impl Write, number: u64, call: Call, hex: &Text) -> io::Result<()> {
     let octets = octets_of(hex);
-    show::heading(rt, number, call)?;
+    show::heading(out, number, call)?;
     show::reading(
-        rt,
+        out,
         call.message,
         read(&octets, call.first, call.end, call.message, call.wanted),
     )
@@ -37,22 +37,22 @@ fn asked(line: &Line) -> Result<Option<(Call, Text)>, Fault> {
     Ok(call.map(|c| (c, octets_word(&text))))
 }
 
-fn answer(rt: &impl Print, line: &Line) -> io::Result<()> {
+fn answer(out: &mut impl Write, line: &Line) -> io::Result<()> {
     let number = line.number();
     match asked(line) {
-        Ok(Some((call, hex))) => answer_call(rt, number, call, &hex),
+        Ok(Some((call, hex))) => answer_call(out, number, call, &hex),
         Ok(None) => Ok(()),
-        Err(fault) => show::unread(rt, number, fault),
+        Err(fault) => show::unread(out, number, fault),
     }
 }
 
 // Answers each line that ends in a piece of the input.
-fn take_piece(rt: &impl Print, line: &mut Line, piece: &[u8]) -> io::Result<()>
+fn take_piece(out: &mut impl Write, line: &mut Line, piece: &[u8]) -> io::Result<()>
     ensures { OnOk result (line.new ≡ held LINE line.old piece.now) }
 {
     for character in piece {
         if *character == NEWLINE {
-            answer(rt, line)?;
+            answer(out, line)?;
         }
         line.take(*character);
     }
@@ -62,18 +62,21 @@ fn take_piece(rt: &impl Print, line: &mut Line, piece: &[u8]) -> io::Result<()>
 // A proved loop has to end, so it counts up to a number that no run reaches.
 fn main(rt: HostRuntime) -> io::Result<()> {
     let mut input = rt.reader();
+    let mut out = BufWriter::with_capacity(rt.alloc(), PIECE, io::writer(&rt))?;
     let mut line = Line::new();
     let mut piece = [0u8; PIECE];
     for _ in 0..u64::MAX {
+        // The read may wait, and who sends the next line may wait for these answers.
+        out.flush()?;
         let n = input.read(&mut piece)?;
         if n == 0 {
             break;
         }
-        take_piece(&rt, &mut line, &piece[..n])?;
+        take_piece(&mut out, &mut line, &piece[..n])?;
     }
     // A last line without a newline.
     if !line.is_empty() {
-        answer(&rt, &line)?;
+        answer(&mut out, &line)?;
     }
-    Ok(())
+    out.flush()
 }

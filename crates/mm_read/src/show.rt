@@ -20,24 +20,24 @@ use std::{fmt, io};
 
 // A line of a field.
 fn field(
-    rt: &impl Print,
+    out: &mut impl io::Write,
     level: u8,
     name: impl fmt::Display + Drop,
     value: impl fmt::Display + Drop,
 ) -> io::Result<()> {
     let indent = 2 * usize::from(level);
-    println!(rt; "{:indent$}{name}: {value}", "")
+    writeln!(out, "{:indent$}{name}: {value}", "")
 }
 
 // A line of a number that may be absent.
 fn field_if(
-    rt: &impl Print,
+    out: &mut impl io::Write,
     level: u8,
     name: &str,
     value: impl Into<Option<u64>>,
 ) -> io::Result<()> {
     if let Some(n) = value.into() {
-        field(rt, level, name, n)?;
+        field(out, level, name, n)?;
     }
     Ok(())
 }
@@ -48,13 +48,13 @@ fn octet(n: OptionalU8) -> Option<u64> {
 }
 
 // The data of an element of so many bits, of which a record holds 64.
-fn data_of(rt: &impl Print, bits: usize, n: u64) -> io::Result<()> {
+fn data_of(out: &mut impl io::Write, bits: usize, n: u64) -> io::Result<()> {
     if bits <= 64 {
         let digits = bits.div_ceil(4);
-        field(rt, 2, "data", format_args!("0x{n:0digits$x}"))
+        field(out, 2, "data", format_args!("0x{n:0digits$x}"))
     } else {
         field(
-            rt,
+            out,
             2,
             "first 64 bits of the data",
             format_args!("0x{n:016x}"),
@@ -62,23 +62,23 @@ fn data_of(rt: &impl Print, bits: usize, n: u64) -> io::Result<()> {
     }
 }
 
-fn type3(rt: &impl Print, name: &str, o: OptionalType3) -> io::Result<()> {
+fn type3(out: &mut impl io::Write, name: &str, o: OptionalType3) -> io::Result<()> {
     if o.present {
         let e = o.value;
-        field(rt, 1, name, "present")?;
-        field(rt, 2, "length in bits", e.len)?;
-        data_of(rt, e.len, e.data)?;
+        field(out, 1, name, "present")?;
+        field(out, 2, "length in bits", e.len)?;
+        data_of(out, e.len, e.data)?;
     }
     Ok(())
 }
 
-fn type4(rt: &impl Print, name: &str, o: OptionalType4) -> io::Result<()> {
+fn type4(out: &mut impl io::Write, name: &str, o: OptionalType4) -> io::Result<()> {
     if o.present {
         let e = o.value;
-        field(rt, 1, name, "present")?;
-        field(rt, 2, "entries", e.elems)?;
-        field(rt, 2, "length in bits behind the number of entries", e.len)?;
-        data_of(rt, e.len, e.data)?;
+        field(out, 1, name, "present")?;
+        field(out, 2, "entries", e.elems)?;
+        field(out, 2, "length in bits behind the number of entries", e.len)?;
+        data_of(out, e.len, e.data)?;
     }
     Ok(())
 }
@@ -109,23 +109,23 @@ const CLASS_FIELDS: [&str; 22] = [
     "D8PSK",
 ];
 
-fn class_of_ms(rt: &impl Print, o: OptionalClassOfMs) -> io::Result<()> {
+fn class_of_ms(out: &mut impl io::Write, o: OptionalClassOfMs) -> io::Result<()> {
     if o.present {
-        field(rt, 1, "class of MS", "present")?;
+        field(out, 1, "class of MS", "present")?;
         for (name, value) in CLASS_FIELDS.iter().zip(o.value.fields()) {
-            field(rt, 2, name, value)?;
+            field(out, 2, name, value)?;
         }
     }
     Ok(())
 }
 
-fn energy_saving(rt: &impl Print, o: OptionalEnergySavingInformation) -> io::Result<()> {
+fn energy_saving(out: &mut impl io::Write, o: OptionalEnergySavingInformation) -> io::Result<()> {
     if o.present {
         let e = o.value;
-        field(rt, 1, "energy saving information", "present")?;
-        field(rt, 2, "energy saving mode", e.energy_saving_mode)?;
-        field_if(rt, 2, "frame number", octet(e.frame_number))?;
-        field_if(rt, 2, "multiframe number", octet(e.multiframe_number))?;
+        field(out, 1, "energy saving information", "present")?;
+        field(out, 2, "energy saving mode", e.energy_saving_mode)?;
+        field_if(out, 2, "frame number", octet(e.frame_number))?;
+        field_if(out, 2, "multiframe number", octet(e.multiframe_number))?;
     }
     Ok(())
 }
@@ -168,7 +168,7 @@ impl From<GroupIdentityDownlink> for Group {
     }
 }
 
-fn one_group(rt: &impl Print, level: u8, number: usize, g: Group) -> io::Result<()>
+fn one_group(out: &mut impl io::Write, level: u8, number: usize, g: Group) -> io::Result<()>
     requires { level ≤ 4 }
 {
     let change = if g.usage.is_some() {
@@ -176,35 +176,35 @@ fn one_group(rt: &impl Print, level: u8, number: usize, g: Group) -> io::Result<
     } else {
         "detachment"
     };
-    field(rt, level, format_args!("group {number}"), change)?;
+    field(out, level, format_args!("group {number}"), change)?;
     let inner = level + 1;
     field_if(
-        rt,
+        out,
         inner,
         "group identity attachment lifetime",
         g.lifetime.map(u64::from),
     )?;
-    field_if(rt, inner, "class of usage", g.usage.map(u64::from))?;
+    field_if(out, inner, "class of usage", g.usage.map(u64::from))?;
     field_if(
-        rt,
+        out,
         inner,
         "group identity detachment uplink",
         g.detachment.map(u64::from),
     )?;
     let a = g.address;
-    field_if(rt, inner, "GSSI", a.gssi.map(u64::from))?;
+    field_if(out, inner, "GSSI", a.gssi.map(u64::from))?;
     field_if(
-        rt,
+        out,
         inner,
         "address extension",
         a.address_extension.map(u64::from),
     )?;
-    field_if(rt, inner, "VGSSI", a.vgssi.map(u64::from))
+    field_if(out, inner, "VGSSI", a.vgssi.map(u64::from))
 }
 
 // A list of groups, which the C interface keeps whole: the first `count` are there.
 fn groups<G: Copy + Into<Group>>(
-    rt: &impl Print,
+    out: &mut impl io::Write,
     level: u8,
     name: &str,
     present: bool,
@@ -214,29 +214,29 @@ fn groups<G: Copy + Into<Group>>(
     requires { level ≤ 2 }
 {
     if present {
-        field(rt, level, name, "present")?;
-        field(rt, level + 1, "groups", count)?;
+        field(out, level, name, "present")?;
+        field(out, level + 1, "groups", count)?;
         for (i, g) in list.iter().take(count).enumerate() {
-            one_group(rt, level + 1, i + 1, (*g).into())?;
+            one_group(out, level + 1, i + 1, (*g).into())?;
         }
     }
     Ok(())
 }
 
 // Each structure has fields and a list of its own, so there is a function for each.
-fn location_demand(rt: &impl Print, o: OptionalLocationDemand) -> io::Result<()> {
+fn location_demand(out: &mut impl io::Write, o: OptionalLocationDemand) -> io::Result<()> {
     if o.present {
         let v = o.value;
-        field(rt, 1, "group identity location demand", "present")?;
+        field(out, 1, "group identity location demand", "present")?;
         field(
-            rt,
+            out,
             2,
             "group identity attach/detach mode",
             v.group_identity_attach_detach_mode,
         )?;
         let l = v.group_identity_uplink;
         groups(
-            rt,
+            out,
             2,
             "group identity uplink",
             l.present,
@@ -247,19 +247,19 @@ fn location_demand(rt: &impl Print, o: OptionalLocationDemand) -> io::Result<()>
     Ok(())
 }
 
-fn location_accept(rt: &impl Print, o: OptionalLocationAccept) -> io::Result<()> {
+fn location_accept(out: &mut impl io::Write, o: OptionalLocationAccept) -> io::Result<()> {
     if o.present {
         let v = o.value;
-        field(rt, 1, "group identity location accept", "present")?;
+        field(out, 1, "group identity location accept", "present")?;
         field(
-            rt,
+            out,
             2,
             "group identity accept/reject",
             v.group_identity_accept_reject,
         )?;
         let l = v.group_identity_downlink;
         groups(
-            rt,
+            out,
             2,
             "group identity downlink",
             l.present,
@@ -270,77 +270,77 @@ fn location_accept(rt: &impl Print, o: OptionalLocationAccept) -> io::Result<()>
     Ok(())
 }
 
-fn demand(rt: &impl Print, d: ULocationUpdateDemand) -> io::Result<()> {
-    field(rt, 1, "location update type", d.location_update_type)?;
-    field(rt, 1, "request to append LA", d.request_to_append_la)?;
-    field(rt, 1, "cipher control", d.cipher_control)?;
-    field_if(rt, 1, "ciphering parameters", d.ciphering_parameters)?;
-    class_of_ms(rt, d.class_of_ms)?;
-    field_if(rt, 1, "energy saving mode", octet(d.energy_saving_mode))?;
-    field_if(rt, 1, "LA information", d.la_information)?;
-    field_if(rt, 1, "SSI", d.ssi)?;
-    field_if(rt, 1, "address extension", d.address_extension)?;
-    location_demand(rt, d.group_identity_location_demand)?;
-    type3(rt, "group report response", d.group_report_response)?;
-    type3(rt, "authentication uplink", d.authentication_uplink)?;
-    type3(rt, "extended capabilities", d.extended_capabilities)?;
-    type3(rt, "proprietary", d.proprietary)
+fn demand(out: &mut impl io::Write, d: ULocationUpdateDemand) -> io::Result<()> {
+    field(out, 1, "location update type", d.location_update_type)?;
+    field(out, 1, "request to append LA", d.request_to_append_la)?;
+    field(out, 1, "cipher control", d.cipher_control)?;
+    field_if(out, 1, "ciphering parameters", d.ciphering_parameters)?;
+    class_of_ms(out, d.class_of_ms)?;
+    field_if(out, 1, "energy saving mode", octet(d.energy_saving_mode))?;
+    field_if(out, 1, "LA information", d.la_information)?;
+    field_if(out, 1, "SSI", d.ssi)?;
+    field_if(out, 1, "address extension", d.address_extension)?;
+    location_demand(out, d.group_identity_location_demand)?;
+    type3(out, "group report response", d.group_report_response)?;
+    type3(out, "authentication uplink", d.authentication_uplink)?;
+    type3(out, "extended capabilities", d.extended_capabilities)?;
+    type3(out, "proprietary", d.proprietary)
 }
 
-fn accept(rt: &impl Print, a: DLocationUpdateAccept) -> io::Result<()> {
+fn accept(out: &mut impl io::Write, a: DLocationUpdateAccept) -> io::Result<()> {
     field(
-        rt,
+        out,
         1,
         "location update accept type",
         a.location_update_accept_type,
     )?;
-    field_if(rt, 1, "SSI", a.ssi)?;
-    field_if(rt, 1, "address extension", a.address_extension)?;
-    field_if(rt, 1, "subscriber class", a.subscriber_class)?;
-    energy_saving(rt, a.energy_saving_information)?;
+    field_if(out, 1, "SSI", a.ssi)?;
+    field_if(out, 1, "address extension", a.address_extension)?;
+    field_if(out, 1, "subscriber class", a.subscriber_class)?;
+    energy_saving(out, a.energy_saving_information)?;
     field_if(
-        rt,
+        out,
         1,
         "SCCH information and distribution on 18th frame",
         a.scch_information_and_distribution_on_18th_frame,
     )?;
-    type4(rt, "new registered area", a.new_registered_area)?;
-    type3(rt, "security downlink", a.security_downlink)?;
-    location_accept(rt, a.group_identity_location_accept)?;
+    type4(out, "new registered area", a.new_registered_area)?;
+    type3(out, "security downlink", a.security_downlink)?;
+    location_accept(out, a.group_identity_location_accept)?;
     type3(
-        rt,
+        out,
         "default group attachment lifetime",
         a.default_group_attachment_lifetime,
     )?;
-    type3(rt, "authentication downlink", a.authentication_downlink)?;
+    type3(out, "authentication downlink", a.authentication_downlink)?;
     type4(
-        rt,
+        out,
         "group identity security related information",
         a.group_identity_security_related_information,
     )?;
-    type3(rt, "cell type control", a.cell_type_control)?;
-    type3(rt, "proprietary", a.proprietary)
+    type3(out, "cell type control", a.cell_type_control)?;
+    type3(out, "proprietary", a.proprietary)
 }
 
-fn attach_detach(rt: &impl Print, d: DAttachDetachGroupIdentity) -> io::Result<()> {
-    field(rt, 1, "group identity report", d.group_identity_report)?;
+fn attach_detach(out: &mut impl io::Write, d: DAttachDetachGroupIdentity) -> io::Result<()> {
+    field(out, 1, "group identity report", d.group_identity_report)?;
     field(
-        rt,
+        out,
         1,
         "group identity acknowledgement request",
         d.group_identity_acknowledgement_request,
     )?;
     field(
-        rt,
+        out,
         1,
         "group identity attach/detach mode",
         d.group_identity_attach_detach_mode,
     )?;
-    type3(rt, "proprietary", d.proprietary)?;
-    type3(rt, "group report response", d.group_report_response)?;
+    type3(out, "proprietary", d.proprietary)?;
+    type3(out, "group report response", d.group_report_response)?;
     let l = d.group_identity_downlink;
     groups(
-        rt,
+        out,
         1,
         "group identity downlink",
         l.present,
@@ -348,17 +348,17 @@ fn attach_detach(rt: &impl Print, d: DAttachDetachGroupIdentity) -> io::Result<(
         &l.groups,
     )?;
     type4(
-        rt,
+        out,
         "group identity security related information",
         d.group_identity_security_related_information,
     )
 }
 
-fn record(rt: &impl Print, message: u64, held: Record) -> io::Result<()> {
+fn record(out: &mut impl io::Write, message: u64, held: Record) -> io::Result<()> {
     match message {
-        DEMAND => demand(rt, held.demand),
-        ACCEPT => accept(rt, held.accept),
-        _ => attach_detach(rt, held.attach_detach),
+        DEMAND => demand(out, held.demand),
+        ACCEPT => accept(out, held.accept),
+        _ => attach_detach(out, held.attach_detach),
     }
 }
 
@@ -381,27 +381,27 @@ fn meaning(refusal: PduParseErr) -> &'static str {
 }
 
 // The answer of a call.
-pub(crate) fn reading(rt: &impl Print, message: u64, r: Reading) -> io::Result<()> {
+pub(crate) fn reading(out: &mut impl io::Write, message: u64, r: Reading) -> io::Result<()> {
     match r.verdict {
         Ok(()) => {
-            record(rt, message, r.record)?;
-            field(rt, 1, "bits consumed", r.consumed)?;
-            field(rt, 1, "elements skipped", r.skipped)
+            record(out, message, r.record)?;
+            field(out, 1, "bits consumed", r.consumed)?;
+            field(out, 1, "elements skipped", r.skipped)
         }
         Err(e) => {
-            field(rt, 1, "refusal", e.number())?;
-            field(rt, 1, "meaning", meaning(e))?;
-            field(rt, 1, "place", format_args!("bit {}", r.place))
+            field(out, 1, "refusal", e.number())?;
+            field(out, 1, "meaning", meaning(e))?;
+            field(out, 1, "place", format_args!("bit {}", r.place))
         }
     }
 }
 
 // `line 1: demand, strict, window 0 to 10`.
-pub(crate) fn heading(rt: &impl Print, n: u64, c: Call) -> io::Result<()> {
-    println!(rt; "line {n}: {c}")
+pub(crate) fn heading(out: &mut impl io::Write, n: u64, c: Call) -> io::Result<()> {
+    writeln!(out, "line {n}: {c}")
 }
 
 // A line that is no call.
-pub(crate) fn unread(rt: &impl Print, n: u64, f: Fault) -> io::Result<()> {
-    println!(rt; "line {n}: not read: {f}")
+pub(crate) fn unread(out: &mut impl io::Write, n: u64, f: Fault) -> io::Result<()> {
+    writeln!(out, "line {n}: not read: {f}")
 }
