@@ -20,7 +20,8 @@ enum {
 /* Readings: a skipping one passes over whole outer elements that the message's table lacks, and counts them. */
 enum { TETRA_MM_STRICT = 0, TETRA_MM_SKIPPING = 1 };
 
-/* Refusals, in the order in which a reading or a rewriting asks; the first one met is the answer. */
+/* Refusals; the first one met is the answer. A reading asks 1 before all, 2 to 7 as the fields and elements come up, and
+ * 16 last; the order of a rewriting stands at tetra_mm_rewrite. */
 enum {
     TETRA_MM_BAD_CALL = 1,            /* unknown message or reading, over 4,096 octets, or no window of them */
     TETRA_MM_BUFFER_ENDED = 2,        /* a field, identifier or content ends outside the window */
