@@ -4,8 +4,8 @@ use Rattle.std.proofs.Common.{div-one, one-add, arith, sym, ◌∙◌, append_as
 use Rattle.std.specs.Bool.{beq}
 use Rattle.std.specs.Prelude.{Option, None, Some}
 use Rattle.bits.specs.Bits.{Bits, digits}
-use Rattle.bits.specs.Reader.{Reader, got, ◌>>=◌, field, optional, Local}
-use Rattle.bits.specs.ReaderLaws.{then_same, local·rules, field_back, split-then}
+use Rattle.bits.specs.Reader.{Reader, got, ◌>>=◌, field, optional}
+use Rattle.bits.specs.ReaderLaws.{then_same, field_back, split-then}
 use Rattle.elements.specs.Numbers.{value_or, held, optional_number, option_all, in_width, flag_width, Same}
 use Rattle.elements.proofs.NumbersLaws.{never, both, optional-same-back, number-back, optional_number-back, held-option, same-held, same_self}
 use Rattle.elements.specs.ClassOfMs.{numbers}

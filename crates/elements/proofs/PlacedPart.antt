@@ -1,24 +1,30 @@
 -- A part of a table by its elements: the slots before the one that an element opens hold nothing.
-use Rattle.std.specs.Prelude.{ℕ, zero, suc, ◌+◌, ◌≤◌, ◌<◌, ◌≡◌, slice_index_or, length, Bool, true, false, cond, not, List, [], ◌∷◌, set, drop, replicate}
+use Rattle.std.specs.Prelude.{ℕ, zero, suc, ◌+◌, ◌≤◌, ◌<◌, ◌≡◌, slice_index_or, length, Bool, true, false, cond, not, List, [], ◌∷◌, map, set, drop, replicate}
+use Rattle.std.proofs.lemmas.List.Edits.{sets}
 use Rattle.std.specs.List.{position_or_len}
 use Rattle.std.specs.Prelude.{Option, None}
 use Rattle.std.proofs.Common.{arith, sym, ap, ◌∙◌, refl, drop-drop, length-drop}
 use Rattle.std.proofs.lemmas.Bool.{not-false}
 use Rattle.std.proofs.lemmas.List.{get_or-drop}
 use Rattle.std.proofs.lemmas.List.Sums.{prefix_len_stops}
-use Rattle.bits.specs.Reader.{got}
-use Rattle.bits.specs.Placed.{Placed, placed, halted, at}
-use Rattle.bits.specs.PlacedLaws.{Gives, told, done}
-use Rattle.bits.specs.PlacedTimes.{set-behind}
+use Rattle.bits.specs.PduParseError.{buffer_ended}
+use Rattle.bits.specs.Bits.{Bits}
+use Rattle.bits.specs.Reader.{Answer, got, refused, Reader, then, ◌>>=◌}
+use Rattle.bits.specs.Placed.{window, Placed, placed, halted, at}
+use Rattle.bits.specs.PlacedLaws.{Gives, told, step, stop, done}
+use Rattle.bits.specs.PlacedTimes.{set-behind, alike}
 use Rattle.bits.specs.declared.bitbuffer.Cursor.{Cursor}
+use Rattle.elements.specs.Table.{Look, outside, ends, opens, look, closing, counted, is_listed}
+use Rattle.elements.proofs.TableLaws.{at_end, skip-halts, pieces_unfold}
 use Rattle.elements.specs.Kinds.{Slot, absent_type3, absent_type4, identifier_of, content}
-use Rattle.elements.specs.Rows.{from_type3, from_type4, skipping, is_type4, generic_row, generic_in, generic_content, generic_slot, no_generic, no_generics, opened_by}
+use Rattle.elements.specs.Rows.{from_type3, from_type4, skipping, is_type4, generic_row, generic_in, generic_content, generic_slot, generics, part, follows_at, element_follows, no_generic, no_generics, opened_by}
 use Rattle.elements.specs.Answers.{opening}
-use Rattle.elements.proofs.PlacedTable.{same-as, other-than, slot-outside, slot-absent, slot-there, generic_slot_tail, resumed, resumed_broken, resumed-on, resumed_skipped, skipped_again}
+use Rattle.elements.proofs.PlacedTable.{follows_tail, same-as, other-than, slot-outside, slot-absent, slot-there, generic_slot_tail, resumed, resumed_broken, resumed-on, resumed_skipped, skipped_again}
 use Rattle.elements.proofs.Tables.{no_row, next-row}
 use Rattle.bits.specs.declared.pdu_parse_error.PduParseErr.{PduParseErr}
 use Rattle.elements.specs.declared.typed_pdu_fields.Generic.{Generic}
 use Rattle.elements.specs.declared.typed_pdu_fields.Row.{Row}
+use Rattle.elements.specs.declared.typed_pdu_fields.Slots.{Slots}
 
 -- an absent value, put where one is
 put-again : {A : Type 0} (z : A) (xs : List A) (i m : ℕ) → drop i xs ≡ drop i (replicate m z) → set xs i z ≡ xs
@@ -140,3 +146,75 @@ module _ (table : List Slot) (b : Bool) where
 
         pub empty-on : drop (from + (i + p + 1)) (set gs (from + (i + p)) g) ≡ drop (from + (i + p + 1)) no_generics
         empty-on = rw next-place at (set-behind no_generic gs no_generics (from + (i + p)) g empty-behind)
+
+-- ## the last part, before the closing M-bit
+
+abbrev pub no_slots : Slots
+no_slots = record { skipped = 0; generics = no_generics }
+
+absent-put : (rs : List Row) (from : ℕ) → sets no_generics from (map (λ r. no_generic) rs) ≡ no_generics
+absent-put [] from = refl
+absent-put (r ∷ rs) from =
+    ap (λ gs. sets gs (suc from) (map (λ r. no_generic) rs)) (put-again no_generic no_generics from 8 refl) ∙ absent-put rs (suc from)
+
+absent_in : (r : Row) → generic_in r None ≡ no_generic
+absent_in r = go (is_type4 r.kind)
+  where
+    go : (four : Bool) → cond four no_generic no_generic ≡ no_generic
+    go true = refl
+    go false = refl
+
+module _ (table : List Slot) (b : Bool) where
+  module _ (bs : Bits) (l : look bs ≡ ends) where
+    none-skipped : skipping table b bs ≡ got 0 bs
+    none-skipped = skip-halts (is_listed identifier_of table) b bs (at_end l)
+
+    ended-slots : (rs : List Row) → generics table rs b bs ≡ got (counted 0 (map (λ r. no_generic) rs)) bs
+    unfolding generics generic_slot
+    ended-slots [] = refl
+    ended-slots (r ∷ rs) = rw (none-skipped, l, absent_in r, ended-slots rs)
+
+    -- no slot holds anything, and the M-bit is read
+    ended : (rs : List Row) (from : ℕ) → part table rs true b from bs ≡ then (closing bs) (λ z. got no_slots)
+    unfolding part
+    ended rs from = rw (ended-slots rs, none-skipped, absent-put rs from) (go (closing bs))
+      where
+        go : (x : Answer Unit) → then (then x (λ z. got 0)) (λ n. got (record { skipped = 0 + n; generics = no_generics })) ≡ then x (λ z. got no_slots)
+        go (got z rest) = refl
+        go (refused e) = refl
+
+  module _ (r : Row) (rs : List Row) (from : ℕ) where
+    abbrev last_part : Reader Slots
+    last_part = part table (r ∷ rs) true b from
+
+    abbrev read_if : Bool → Reader Slots
+    read_if true = last_part
+    read_if false = got no_slots
+
+    -- ONE LOOK BEFORE A PART that ends its table: whether an element follows
+    look-before : (bs : Bits) → last_part bs ≡ (element_follows true >>= read_if) bs
+    unfolding element_follows part generics generic_slot
+    look-before bs = go (look bs) refl
+      where
+        go : (l : Look) → look bs ≡ l → last_part bs ≡ then (follows_at l bs) read_if
+        go outside l = unseen b l
+          where
+            unseen : (b : Bool) → look bs ≡ outside → part table (r ∷ rs) true b from bs ≡ refused buffer_ended
+            unseen true l = rw (pieces_unfold (is_listed identifier_of table) bs) (rw l)
+            unseen false l = rw l
+        go ends l = ended bs l (r ∷ rs) from ∙ behind (closing bs)
+          where
+            behind : (x : Answer Unit) → then x (λ z. got no_slots) ≡ then (then x (λ z. got false)) read_if
+            behind (got z rest) = refl
+            behind (refused e) = refl
+        go (opens i) l = refl
+
+    module _ {os : List ℕ} {c : Cursor} where
+      looked-before : {x : Placed Slots} → Gives (element_follows true >>= read_if) os c x → Gives last_part os c x
+      looked-before g = alike (element_follows true >>= read_if) (look-before (window os c)) g
+
+      pub part-unseen : {e : PduParseErr} → Gives (element_follows true) os c (halted e) → Gives last_part os c (halted e)
+      part-unseen e = looked-before (stop _ e)
+
+      pub part-ended : {m : Bool} {k : Cursor} → Gives (element_follows true) os c (placed m k) → m ≡ false → Gives last_part os c (placed no_slots k)
+      part-ended e n = looked-before (step _ e (follows_tail true) (rw n done))

@@ -311,7 +311,7 @@ module _ (stop : ℕ → Bool) where
   pieces-halts bs (at-stop i l t) = pieces_unfold bs ∙ rw l (rw t)
 
   -- nothing is skipped where they end
-  skip-halts : (b : Bool) (bs : Bits) → Halts stop (look bs) → skip stop b bs ≡ got 0 bs
+  pub skip-halts : (b : Bool) (bs : Bits) → Halts stop (look bs) → skip stop b bs ≡ got 0 bs
   skip-halts true bs h = rw (pieces-halts bs h)
   skip-halts false bs h = refl
 

@@ -5,12 +5,11 @@ use Rattle.bits.specs.Reader.{Reader, got, ◌>>=◌}
 use Rattle.bits.specs.Placed.{Placed}
 use Rattle.elements.specs.Numbers.{value_or}
 use Rattle.elements.specs.Table.{slot}
-use Rattle.elements.specs.Lists.{Groups, list, list_of, uplinks, downlinks}
+use Rattle.elements.specs.Lists.{Groups, list, list_of}
 use Rattle.elements.specs.Locations.{location_demand, no_location_demand, location_accept, no_location_accept}
 use Rattle.elements.specs.Kinds.{Kind, Element, row, of_location_demand, of_location_accept, of_downlinks, is_location_demand, is_location_accept, held_element, identifier_of, content}
 use Rattle.elements.specs.Answers.{judged}
 use Rattle.elements.specs.declared.typed_pdu_fields.Judged.{Judged}
-use Rattle.elements.specs.declared.group_identity_uplink.OptionalUplinks.{OptionalUplinks}
 use Rattle.elements.specs.declared.group_identity_downlink.OptionalDownlinks.{OptionalDownlinks}
 use Rattle.elements.specs.declared.group_identity_location_demand.GroupIdentityLocationDemand.{GroupIdentityLocationDemand}
 use Rattle.elements.specs.declared.group_identity_location_demand.OptionalLocationDemand.{OptionalLocationDemand}

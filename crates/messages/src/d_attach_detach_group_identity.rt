@@ -165,18 +165,28 @@ impl Pdu for DAttachDetachGroupIdentity {
         let Ok(c4) = w else {
             return unread(w.unwrap_err());
         };
-        let b = scan_part(c4, octets, &TABLE, 3, 4, true, skipping);
-        let x = b.verdict;
-        let Ok(c5) = x else {
-            return unread(x.unwrap_err());
+        let z = element_follows(c4, octets, true);
+        let Ok((further, c5)) = z else {
+            return unread(z.unwrap_err());
         };
         let front = a.value;
-        let back = b.value;
         let before = front.generics;
-        let behind = back.generics;
         let list = d.value;
+        if !further {
+            return MessageRead {
+                verdict: Ok((front.skipped, c5)),
+                record: record_of(head, list, before, NO_GENERICS),
+            };
+        }
+        let b = scan_part(c4, octets, &TABLE, 3, 4, true, skipping);
+        let x = b.verdict;
+        let Ok(c6) = x else {
+            return unread(x.unwrap_err());
+        };
+        let back = b.value;
+        let behind = back.generics;
         MessageRead {
-            verdict: Ok((front.skipped + back.skipped, c5)),
+            verdict: Ok((front.skipped + back.skipped, c6)),
             record: record_of(head, list, before, behind),
         }
     }

@@ -232,18 +232,28 @@ fn read_elements(
     let Ok(c2) = w else {
         return unread(w.unwrap_err());
     };
-    let b = scan_part(c2, octets, &TABLE, 3, 8, true, skipping);
-    let x = b.verdict;
-    let Ok(c3) = x else {
-        return unread(x.unwrap_err());
+    let z = element_follows(c2, octets, true);
+    let Ok((further, c3)) = z else {
+        return unread(z.unwrap_err());
     };
     let front = a.value;
-    let back = b.value;
     let before = front.generics;
-    let behind = back.generics;
     let location = d.value;
+    if !further {
+        return MessageRead {
+            verdict: Ok((front.skipped, c3)),
+            record: record_of(head, location, before, NO_GENERICS),
+        };
+    }
+    let b = scan_part(c2, octets, &TABLE, 3, 8, true, skipping);
+    let x = b.verdict;
+    let Ok(c4) = x else {
+        return unread(x.unwrap_err());
+    };
+    let back = b.value;
+    let behind = back.generics;
     MessageRead {
-        verdict: Ok((front.skipped + back.skipped, c3)),
+        verdict: Ok((front.skipped + back.skipped, c4)),
         record: record_of(head, location, before, behind),
     }
 }

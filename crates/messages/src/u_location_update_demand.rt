@@ -217,16 +217,26 @@ fn read_elements(
     let Ok(c2) = w else {
         return unread(w.unwrap_err());
     };
+    let z = element_follows(c2, octets, true);
+    let Ok((further, c3)) = z else {
+        return unread(z.unwrap_err());
+    };
+    let location = d.value;
+    if !further {
+        return MessageRead {
+            verdict: Ok((n, c3)),
+            record: record_of(head, location, NO_GENERICS),
+        };
+    }
     let b = scan_part(c2, octets, &TABLE, 1, 5, true, skipping);
     let x = b.verdict;
-    let Ok(c3) = x else {
+    let Ok(c4) = x else {
         return unread(x.unwrap_err());
     };
     let back = b.value;
     let generics = back.generics;
-    let location = d.value;
     MessageRead {
-        verdict: Ok((n + back.skipped, c3)),
+        verdict: Ok((n + back.skipped, c4)),
         record: record_of(head, location, generics),
     }
 }

@@ -1,6 +1,6 @@
 -- `elements::group_list::read_list_slot` meets its contract: by the laws of a list's slot.
-use Rattle.std.specs.Prelude.{◌≡◌, Some}
-use Rattle.std.proofs.Common.{sym, ap, ◌∙◌}
+use Rattle.std.specs.Prelude.{Some}
+use Rattle.std.proofs.Common.{sym, ◌∙◌}
 use Rattle.bits.specs.Placed.{placed}
 use Rattle.bits.specs.PlacedLaws.{Gives, from, refused_by}
 use Rattle.elements.specs.Fronts.{list_front}

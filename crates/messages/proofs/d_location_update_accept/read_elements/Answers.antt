@@ -1,5 +1,6 @@
 -- `messages::d_location_update_accept::read_elements` meets its contract: the table in two parts, and its own slot between them. No count overflows:
 -- each element skipped is a bit at least. Assumes nothing.
+use Prim.Native.Nat.{◌+◌}
 use mathlib.Core.Path.{◌≡◌, refl, ◌∙◌}
 use native.Mathlib.Omega.{arith}
 use mathlib.Core.Bool.{true, false}
@@ -7,11 +8,12 @@ use Rattle.std.specs.Prelude.{Option}
 use mathlib.Core.List.{List, [], ◌∷◌, ◌++◌}
 use lib.Seq.{sets}
 use Rattle.bits.specs.Placed.{placed}
-use Rattle.bits.specs.PlacedLaws.{Gives, Fact, fact}
+use Rattle.bits.specs.PlacedLaws.{Gives, from, refused_by, Fact, fact}
 use Rattle.elements.specs.Kinds.{Element, row, of_location_accept, held_element}
 use Rattle.elements.specs.Rows.{part, no_generics}
 use Rattle.elements.specs.GroupAnswers.{location_accept_slot, structure_slot}
 use Rattle.elements.proofs.Verdicts.{answer, verdict_to, verdict_refused}
+use Rattle.elements.proofs.PlacedPart.{no_slots, part-ended, part-unseen}
 use Rattle.elements.proofs.Parts.{Each, no_more, one_more, Parts, no_front_lem, no_slot, no_back, all_read}
 use Rattle.elements.specs.declared.typed_pdu_fields.Generic.{Generic}
 use Rattle.elements.specs.declared.typed_pdu_fields.Kind.TheVariants as K
@@ -23,7 +25,7 @@ use Rattle.messages.specs.MessageAnswers.{accept_from, accept_answer}
 use Rattle.messages.specs.declared.d_location_update_accept.AcceptHead.{AcceptHead}
 use Rattle.messages.specs.declared.Record.{Record}
 use Rattle.messages.proofs.d_location_update_accept.read_elements.Goals as goal
-use Rattle.messages.proofs.d_location_update_accept.read_elements.Goals.{In-Ok, In-Ok-w, In-Ok-x}
+use Rattle.messages.proofs.d_location_update_accept.read_elements.Goals.{In-Ok, In-Ok-w, In-Ok-x, Then-not-further}
 
 -- the slots before the own one, and those behind it
 abbrev front : List Row
@@ -58,7 +60,7 @@ slot_read : (c : In-Ok-w) → Gives (location_accept_slot 5) c.args.octets.now c
 slot_read c = verdict_to _ c.read_structure_slot-d.ensures c.in-Ok-w.is
 
 back_read : (c : In-Ok-x) → let a = c.args in
-    Gives (part accept_table back true a.skipping 3) a.octets.now c.in-Ok-w.c2 (placed c.scan_part-b.result.value c.in-Ok-x.c3)
+    Gives (part accept_table back true a.skipping 3) a.octets.now c.in-Ok-w.c2 (placed c.scan_part-b.result.value c.in-Ok-x.c4)
 back_read c = verdict_to _ c.scan_part-b.ensures c.in-Ok-x.is
 
 -- the table, of its parts
@@ -80,6 +82,27 @@ returns-in_default-w c =
     c.unread-in_default-w.ensures ∙ answer accept_answer (no_slot _ a.skipping (parts a.head) (front_read ((goal.at.returns-in_default-w c).In-Ok))
     (verdict_refused _ c.read_structure_slot-d.ensures c.unwrap_err-in_default-w.ensures))
 
+-- nothing stands behind the location accept
+ended : (c : Then-not-further) → let a = c.args in Gives (part accept_table back true a.skipping 3) a.octets.now c.in-Ok-w.c2 (placed no_slots c.in-Ok-z.c3)
+ended c = part-ended _ _ _ _ 3 (from c.in-Ok-z.ensures) c.if-not-further.true
+
+pub returns-in_default-z : goal.returns-in_default-z
+unfolding structure_slot
+returns-in_default-z c =
+    let a = c.args in
+    c.unread-in_default-z.ensures ∙ answer accept_answer (no_back _ a.skipping (parts a.head) (front_read ((goal.at.returns-in_default-z c).In-Ok))
+    (slot_read ((goal.at.returns-in_default-z c).In-Ok-w)) (part-unseen _ _ _ _ 3 (refused_by c.element_follows-z.ensures c.unwrap_err-in_default-z.ensures)))
+
+pub returns-then-not-further : goal.returns-then-not-further
+unfolding structure_slot
+returns-then-not-further c =
+    let a = c.args in
+    let n = c.scan_part-a.result.value.skipped in
+    let all : n + 0 ≡ n = omega arith in
+    rw (c.record_of.ensures, ← all)
+    (answer accept_answer (all_read _ a.skipping (parts a.head) (front_read ((goal.at.returns-then-not-further c).In-Ok))
+    (slot_read ((goal.at.returns-then-not-further c).In-Ok-w)) (ended ((goal.at.returns-then-not-further c).Then-not-further))).is)
+
 pub returns-in_default-x : goal.returns-in_default-x
 unfolding structure_slot
 returns-in_default-x c =
@@ -95,4 +118,4 @@ overflow_add-result c =
 
 pub returns : goal.returns
 unfolding structure_slot
-returns c = rw c.record_of.ensures (answer accept_answer (whole ((goal.at.returns c).In-Ok-x)).holds.is)
+returns c = rw c.record_of-2.ensures (answer accept_answer (whole ((goal.at.returns c).In-Ok-x)).holds.is)

@@ -1,6 +1,5 @@
 -- `elements::group_identity_location_accept::GroupIdentityLocationAcceptReadStructure::from_bitbuf` meets its contract: by the laws of a list inside a
 -- structure, and of a structure of a declared length.
-use Rattle.std.specs.Prelude.{eqb}
 use Rattle.std.proofs.Common.{◌∙◌}
 use Rattle.bits.specs.Reader.{got, ◌>>=◌, word}
 use Rattle.bits.specs.ReaderLaws.{local·rules, local_tail}

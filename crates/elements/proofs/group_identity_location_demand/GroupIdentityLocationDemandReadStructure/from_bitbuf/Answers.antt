@@ -1,12 +1,12 @@
 -- `elements::group_identity_location_demand::GroupIdentityLocationDemandReadStructure::from_bitbuf` meets its contract: by the laws of a list inside a
 -- structure, and of a structure of a declared length.
-use Rattle.std.specs.Prelude.{ℕ, ◌≤◌, ◌<◌, List, eqb}
+use Rattle.std.specs.Prelude.{ℕ, ◌≤◌, ◌<◌, List}
 use Rattle.std.proofs.Common.{arith, ◌∙◌, eq-eqb, ne_eqb}
 use Rattle.bits.specs.PduParseError.{invalid_value}
 use Rattle.bits.specs.Reader.{got, ◌>>=◌, field, word}
 use Rattle.bits.specs.ReaderLaws.{local·rules, local_tail}
 use Rattle.bits.specs.Placed.{Placed, placed, halted}
-use Rattle.bits.specs.PlacedLaws.{Gives, from, refused_by, refused_moving, step, stop}
+use Rattle.bits.specs.PlacedLaws.{Gives, from, refused_by, step, stop}
 use Rattle.bits.specs.PlacedTimes.{passed, failed, exact-stop}
 use Rattle.bits.specs.declared.bitbuffer.Cursor.{Cursor}
 use Rattle.elements.specs.Numbers.{flag_width}

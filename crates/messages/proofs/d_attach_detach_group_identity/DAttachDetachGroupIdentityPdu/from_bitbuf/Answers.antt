@@ -1,5 +1,6 @@
 -- `messages::d_attach_detach_group_identity::DAttachDetachGroupIdentityPdu::from_bitbuf` meets its contract: the head, then no elements, or the table in two
 -- parts and its own slot between them. No count overflows: each element skipped is a bit at least. Assumes nothing.
+use Prim.Native.Nat.{◌+◌}
 use mathlib.Core.Path.{◌≡◌, ◌∙◌, refl}
 use native.Mathlib.Omega.{arith}
 use Rattle.bits.specs.ReaderLaws.{local_tail}
@@ -19,6 +20,7 @@ use mathlib.Core.List.{List, [], ◌∷◌, ◌++◌}
 use lib.Seq.{sets}
 use Rattle.elements.specs.Kinds.{Element, row, of_downlinks, held_element, identifier_of, content}
 use Rattle.elements.specs.Rows.{part, no_generics}
+use Rattle.elements.proofs.PlacedPart.{no_slots, part-ended, part-unseen}
 use Rattle.elements.proofs.PlacedLocations.{downlinks_slot_lem}
 use Rattle.elements.specs.declared.typed_pdu_fields.Generic.{Generic}
 use Rattle.elements.specs.declared.typed_pdu_fields.Kind.TheVariants as K
@@ -29,7 +31,7 @@ use Rattle.messages.specs.AttachDetach.{attach_detach_table, attach_detach_head}
 use Rattle.messages.specs.declared.d_attach_detach_group_identity.AttachDetachHead.{AttachDetachHead}
 use Rattle.messages.specs.declared.Record.{Record}
 use Rattle.messages.proofs.d_attach_detach_group_identity.DAttachDetachGroupIdentityPdu.from_bitbuf.Goals as goal
-use Rattle.messages.proofs.d_attach_detach_group_identity.DAttachDetachGroupIdentityPdu.from_bitbuf.Goals.{After-read_list_slot-d, In-Ok, Else-not-more, In-Ok-v, In-Ok-w, In-Ok-x}
+use Rattle.messages.proofs.d_attach_detach_group_identity.DAttachDetachGroupIdentityPdu.from_bitbuf.Goals.{After-read_list_slot-d, In-Ok, Else-not-more, In-Ok-v, In-Ok-w, In-Ok-x, Then-not-further}
 
 -- the slots before the own one, and those behind it
 abbrev front : List Row
@@ -80,7 +82,7 @@ slot_read c =
     let slot : c.read_list_slot-d.result ≡ list_answer downlinks (at (downlinks_slot 7) c.args.octets.now c.in-Ok-v.c3) = rw (downlinks_slot_lem 7) c.read_list_slot-d.ensures in
     verdict_to _ slot c.in-Ok-w.is
 
-back_read : (c : In-Ok-x) → Gives (part attach_detach_table back true c.args.skipping 3) c.args.octets.now c.in-Ok-w.c4 (placed c.scan_part-b.result.value c.in-Ok-x.c5)
+back_read : (c : In-Ok-x) → Gives (part attach_detach_table back true c.args.skipping 3) c.args.octets.now c.in-Ok-w.c4 (placed c.scan_part-b.result.value c.in-Ok-x.c6)
 back_read c = verdict_to _ c.scan_part-b.ensures c.in-Ok-x.is
 
 -- the table, of its parts
@@ -105,6 +107,27 @@ returns-in_default-w c =
     c.unread-in_default-w.ensures ∙ answer attach_detach_answer (no_slot _ c.args.skipping (parts c.in-Ok.head) (front_read ((goal.at.returns-in_default-w c).In-Ok-v))
     (verdict_refused _ (slot_ensured ((goal.at.returns-in_default-w c).After-read_list_slot-d)) c.unwrap_err-in_default-w.ensures))
     ∙ following ((goal.at.returns-in_default-w c).Else-not-more)
+
+-- nothing stands behind the list
+ended : (c : Then-not-further) → Gives (part attach_detach_table back true c.args.skipping 3) c.args.octets.now c.in-Ok-w.c4 (placed no_slots c.in-Ok-z.c5)
+ended c = part-ended _ _ _ _ 3 (from c.in-Ok-z.ensures) c.if-not-further.true
+
+pub returns-in_default-z : goal.returns-in_default-z
+unfolding downlinks_slot
+returns-in_default-z c =
+    c.unread-in_default-z.ensures ∙ answer attach_detach_answer (no_back _ c.args.skipping (parts c.in-Ok.head) (front_read ((goal.at.returns-in_default-z c).In-Ok-v))
+    (slot_read ((goal.at.returns-in_default-z c).In-Ok-w)) (part-unseen _ _ _ _ 3 (refused_by c.element_follows-z.ensures c.unwrap_err-in_default-z.ensures)))
+    ∙ following ((goal.at.returns-in_default-z c).Else-not-more)
+
+pub returns-then-not-further : goal.returns-then-not-further
+unfolding downlinks_slot
+returns-then-not-further c =
+    let n = c.scan_part-a.result.value.skipped in
+    let all : n + 0 ≡ n = omega arith in
+    rw (c.record_of-then-not-further.ensures, ← all)
+    (answer attach_detach_answer (all_read _ c.args.skipping (parts c.in-Ok.head) (front_read ((goal.at.returns-then-not-further c).In-Ok-v))
+    (slot_read ((goal.at.returns-then-not-further c).In-Ok-w)) (ended ((goal.at.returns-then-not-further c).Then-not-further))).is
+    ∙ following ((goal.at.returns-then-not-further c).Else-not-more))
 
 pub returns-in_default-x : goal.returns-in_default-x
 unfolding downlinks_slot
