@@ -18,7 +18,7 @@ pub const NO_ATTACHMENT: GroupIdentityAttachment = GroupIdentityAttachment {
     class_of_usage: 0,
 };
 
-// Lifetime (2 bits) and class of usage (3 bits), if they are there, read as one field.
+// Lifetime (2 bits) and class of usage (3 bits), if they are there, read as one field, which is faster (DECISIONS 30).
 pub fn read_optional_attachment(
     c: Cursor,
     octets: &[u8],

@@ -282,7 +282,9 @@ pub struct ListFront {
     pub len: usize,
 }
 
-// The length of the element with this identifier, if it stands here; its content is left.
+// The length of the element with this identifier, if it stands here; its content is left. Compiled into its callers, for lists of 16
+// groups (docs/SPEED.md).
+#[inline(always)]
 pub fn read_slot_front(c: Cursor, octets: &[u8], identifier: u8) -> Read<Option<usize>>
     ensures { as_read result ≡ at (slot_front identifier) octets.now c }
 {
@@ -350,7 +352,9 @@ pub fn is_listed(table: &[Row], identifier: u8) -> bool
 // How many unlisted elements were skipped, and the cursor behind them.
 pub type Skipped = Read<usize>;
 
-// The unlisted elements that stand here, each passed whole.
+// The unlisted elements that stand here, each passed whole. A function of its own in the machine code, so that `skip_if` is none, and
+// the strict reading calls nothing.
+#[inline(never)]
 fn skip_unlisted(c: Cursor, octets: &[u8], table: &[Row]) -> Skipped
     ensures { as_read result ≡ at (skipping (rows_of table.now) true) octets.now c }
 {
@@ -371,6 +375,7 @@ fn skip_unlisted(c: Cursor, octets: &[u8], table: &[Row]) -> Skipped
 }
 
 // The same where the reading is the skipping one; the strict one passes none.
+#[inline(always)]
 pub fn skip_if(c: Cursor, octets: &[u8], table: &[Row], wanted: bool) -> Skipped
     ensures { as_read result ≡ at (skipping (rows_of table.now) wanted) octets.now c }
 {

@@ -44,7 +44,7 @@ pub struct DAttachDetachGroupIdentity {
     pub group_identity_security_related_information: OptionalType4,
 }
 
-// The type, and the four bits behind it as one field: those up to the O-bit, and the O-bit.
+// The type, and the four bits behind it as one field, which is faster (DECISIONS 30): those up to the O-bit, and the O-bit.
 fn read_head(c: Cursor, octets: &[u8]) -> Read<AttachDetachHead>
     ensures { as_read result ≡ at attach_detach_head octets.now c }
 {
@@ -65,6 +65,8 @@ fn read_head(c: Cursor, octets: &[u8]) -> Read<AttachDetachHead>
 }
 
 // The record, of the head, the list, and the generic slots before it and behind it.
+// Compiled into its callers: its list is else copied once more.
+#[inline(always)]
 fn record_of(
     head: AttachDetachHead,
     list: OptionalDownlinks,

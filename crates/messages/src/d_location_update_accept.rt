@@ -145,6 +145,8 @@ fn read_head(c: Cursor, octets: &[u8]) -> Read<AcceptHead>
 }
 
 // The record, of the head, the location accept, and the generic slots before it and behind it.
+// Compiled into its callers: its list is else copied once more.
+#[inline(always)]
 fn record_of(
     head: AcceptHead,
     location: OptionalLocationAccept,

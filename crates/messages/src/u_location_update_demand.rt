@@ -146,6 +146,8 @@ fn read_head(c: Cursor, octets: &[u8]) -> Read<DemandHead>
 }
 
 // The record, of the head, the location demand and the generic slots.
+// Compiled into its callers: its list is else copied once more.
+#[inline(always)]
 fn record_of(
     head: DemandHead,
     location: OptionalLocationDemand,
