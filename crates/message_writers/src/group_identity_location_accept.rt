@@ -9,7 +9,6 @@ use element_writers::typed_pdu_fields::element_header;
 use elements::group_identity_location_accept::OptionalLocationAccept;
 use elements::type34_elem_id_dl::GROUP_IDENTITY_LOCATION_ACCEPT;
 
-// What this has in common with the demand is in `write_nested`; a trait for the rest would have more lines than it.
 // The element, which may be absent; its list's content has `list` bits, its own `content`.
 pub(crate) fn write_location_accept(
     c: Cursor,

@@ -178,7 +178,7 @@ these_downlinks gs = record { present = true; count = length gs; groups = downli
 abbrev pub no_downlinks : OptionalDownlinks
 no_downlinks = record { present = false; count = 0; groups = downlink_array [] }
 
--- each address type, attached and then detached; no two numbers of one width are equal
+-- each address type, attached and then detached; in a group no two fields of one width hold the same number
 abbrev pub uplink_groups : List GroupIdentityUplink
 uplink_groups =
     uplink_with (Some 1) None (Some 1048577) None None

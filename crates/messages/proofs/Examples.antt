@@ -78,6 +78,7 @@ accepted consumed skipped r = record { verdict = Ok tt; place = consumed; consum
 abbrev took : ℕ → Writing
 took n = record { verdict = Ok tt; written = n }
 
+-- a refusal by its number; `error-number` shows that each number names one
 abbrev refusing : ℕ → Writing
 refusing n = record { verdict = Err (error_of n); written = 0 }
 
@@ -230,6 +231,8 @@ rows =
     -- a window exactly long enough at bit 3, and one bit short
     ∷ writes 2 (ones 2) 3 13 plain (took 10) (228 ∷ 199 ∷ [])
     ∷ writes 2 (ones 2) 3 12 plain (refusing 16) (ones 2)
+    -- and read from bit 3 on: the place is 13, the bits consumed are 10
+    ∷ reads 2 0 (228 ∷ 199 ∷ []) 3 13 (record { verdict = Ok tt; place = 13; consumed = 10; skipped = 0; «record» = plain })
     -- A NUMBER OF ITS OWN IN EACH FIELD, so that no two fields of one width can change places, read and written. The one-bit fields: each two
     -- of a head differ in one of the records; here append, control and mode are 0, 1, 1 and report, acknowledgement and mode 1, 0, 1
     ∷ reads 2 0 demand_full_octets 0 535 (accepted 535 0 (only_demand demand_full))
@@ -304,4 +307,4 @@ rows_hold =
     refl also refl also refl also refl also refl also refl also refl also refl also refl also refl also refl also refl also
     refl also refl also refl also refl also refl also refl also refl also refl also refl also refl also refl also refl also
     refl also refl also refl also refl also refl also refl also refl also refl also refl also refl also refl also refl also
-    and_that_is-all
+    refl also and_that_is-all

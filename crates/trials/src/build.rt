@@ -1,5 +1,5 @@
 // Messages put together field by field, in the standard's layout.
-use bits::bitbuffer::Cursor;
+use bits::bitbuffer::{Cursor, NO_DIGITS};
 use messages::{ACCEPT, ATTACH_DETACH, DEMAND};
 
 // A message's type number, its octets, and the place behind what is put together so far.
@@ -47,9 +47,9 @@ impl<const N: usize> Draft<N> {
 
     // A field. One that does not fit is left out, and the trial's line then shows it.
     pub(crate) fn put(&mut self, value: u64, width: usize) {
-        if let Ok(next) = self.place.write(&mut self.octets, value, width) {
-            self.place = next;
-        }
+        self.place = self
+            .place
+            .put(&mut self.octets, NO_DIGITS.then(value, width));
     }
 
     // Fields: the value and the width of each.
