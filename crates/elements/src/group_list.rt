@@ -48,7 +48,8 @@ fn refused<L: GroupList>(e: PduParseErr) -> Judged<L>
     }
 }
 
-// The slot of a list of groups, where there is such a slot: the list has to end where its length said.
+// The slot of a list of groups, where there is such a slot: the list has to end where its length said. A list without groups is
+// given at once: an array that nothing is put into needn't be copied (DECISIONS 34).
 pub fn read_list_slot<L: GroupList>(
     c: Cursor,
     octets: &[u8],
@@ -67,6 +68,12 @@ pub fn read_list_slot<L: GroupList>(
             value: no_list(),
         };
     };
+    if (front.count == 0) & (front.len == 0) {
+        return Judged {
+            verdict: Ok(first),
+            value: L::zeros(true, 0),
+        };
+    }
     let mut list = L::zeros(true, front.count);
     let mut place = first;
     for i in 0..front.count {

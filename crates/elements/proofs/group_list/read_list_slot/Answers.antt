@@ -7,7 +7,7 @@ use Rattle.elements.specs.Fronts.{list_front}
 use Rattle.elements.specs.GroupAnswers.{list_answer}
 use Rattle.elements.proofs.Verdicts.{answer}
 use Rattle.elements.proofs.PlacedOptional.{known}
-use Rattle.elements.proofs.PlacedLists.{list_zeros, list_put, no_front_lem, list-absent, group-refused, group-read, list_on, list-whole, list-inexact}
+use Rattle.elements.proofs.PlacedLists.{list_zeros, list_put, no_front_lem, list-absent, group-refused, group-read, list_on, list-whole, list-inexact, list_none}
 use Rattle.elements.proofs.group_list.read_list_slot.Goals as goal
 use Rattle.elements.proofs.group_list.read_list_slot.Goals.{In-Some}
 
@@ -25,6 +25,11 @@ pub returns-in_default-front : goal.returns-in_default-front
 returns-in_default-front g c =
     let k = g.L.GroupList.kind in
     rw c.no_list.ensures (answer (list_answer k) (list-absent k c.args.identifier c.args.there (known (from c.in-Ok.ensures) c.in_default-front.is)))
+
+pub returns-then-front : goal.returns-then-front
+returns-then-front g c =
+    let k = g.L.GroupList.kind in
+    rw c.zeros.ensures (answer (list_answer k) (list_none k g.met.L.GroupList.local _ _ (fronted g (goal.at.returns-then-front g c).In-Some) c.if-front.true))
 
 pub loop-i-init : goal.loop-i-init
 loop-i-init g c = list_zeros g.L.GroupList.kind g.met.L.GroupList.made c.zeros-list.ensures
