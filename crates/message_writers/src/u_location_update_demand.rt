@@ -165,7 +165,7 @@ fn write_more(d: ULocationUpdateDemand, h: DemandHead, c: Cursor, octets: &mut [
     Ok(write_generics(c3, octets, &g))
 }
 
-// A message that ends with its O-bit; apart, since the other questions are most of the time that it takes (DECISIONS 40).
+// A message that ends with its O-bit; apart, since nothing but its head has to be asked (DECISIONS 40).
 fn write_alone(h: DemandHead, c: Cursor, octets: &mut [u8]) -> Moved
     ensures { (d : ULocationUpdateDemand) → h ≡ demand_head_in d → demand_more d ≡ false → written octets.new (as_moved result) ≡ write_message (demand_asked d) (demand_bits d) octets.old c }
 {
