@@ -174,7 +174,7 @@ flat_form attach_detach skipped r = flat_attach_detach skipped r.attach_detach
 
 -- 64 × the bits consumed or written, or the refusal's number
 abbrev pub numbered : Result ℕ PduParseErr → ℕ
-numbered (Ok n) = n
+numbered (Ok n) = 64 * n
 numbered (Err e) = number_of e
 
 -- a buffer too short gives 16 after every other question

@@ -11,10 +11,10 @@ use borrow.Rule.Slice.PartMut.{put_mid}
 use Rattle.std.proofs.Math.Seq.{length-sets}
 use Rattle.elements.specs.Lists.{each}
 use Rattle.elements.proofs.EachLaws.{each_more, take-most}
-use Rattle.std.specs.Prelude.{Result}
+use Rattle.std.specs.Prelude.{Result, Ok, Err}
 use Rattle.std.specs.Result.{IsErrAnd}
 use Rattle.std.proofs.lemmas.Result.{err_from_is_err_and}
-use Rattle.bits.specs.PduParseError.{number_of}
+use Rattle.bits.specs.PduParseError.{number_of, error_of, number-at_most_16, error-number}
 use Rattle.bits.specs.declared.pdu_parse_error.PduParseErr.{PduParseErr}
 use Rattle.exports.specs.Flat.{shown, numbered}
 
@@ -98,3 +98,18 @@ module _ {G : Type 0} (flat : G → List ℕ) (w : ℕ) (long : (g : G) → leng
 -- a refusal handed up by `?`
 pub numbered-up : {n : ℕ} (e : PduParseErr) (y : Result ℕ PduParseErr) → IsErrAnd y (λ x. x ≡ e) → number_of e ≡ n → numbered y ≡ n
 numbered-up e y h p = let w = err_from_is_err_and y h in rw (w.1, w.2) p
+
+-- no refusal has the number 0
+not-zero : (e : PduParseErr) → number_of e ≡ 0 → ⊥
+not-zero e z = let f : number_of (error_of 0) ≡ 0 = ap number_of (rw z at (error-number e)) ∙ z in omega (arith, f)
+
+-- NO TWO ANSWERS HAVE ONE NUMBER: 64 × the bits of one, 1 to 16 of a refusal
+module _ (n : ℕ) (e : PduParseErr) where
+  apart : 64 * n ≡ number_of e → ⊥
+  apart h = let m = number-at_most_16 e in let z : number_of e ≡ 0 = omega arith in not-zero e z
+
+pub numbered-one : (x y : Result ℕ PduParseErr) → numbered x ≡ numbered y → x ≡ y
+numbered-one (Ok n) (Ok m) h = let e : n ≡ m = omega arith in ap Ok e
+numbered-one (Ok n) (Err e) h = absurd (apart n e h)
+numbered-one (Err e) (Ok n) h = absurd (apart n e (sym h))
+numbered-one (Err e) (Err f) h = ap Err (sym (error-number e) ∙ ap error_of h ∙ error-number f)

@@ -1,5 +1,5 @@
 -- A reading call into a flat buffer: what the buffer holds afterwards.
-use Rattle.std.specs.Prelude.{ℕ, ◌-◌, ◌*◌, ◌^◌, ◌≤◌, ◌<◌, min, ◌≡◌, refl, Bool, true, false, List, length, eqb, leb, Ok, Err}
+use Rattle.std.specs.Prelude.{ℕ, ◌-◌, ◌*◌, ◌≤◌, min, ◌≡◌, refl, Bool, true, false, List, length, eqb, leb, Ok, Err}
 use Rattle.std.proofs.Common.{arith, ap}
 use Rattle.std.proofs.lemmas.List.Edits.{sets}
 use Rattle.bits.specs.PduParseError.{number_of, window_too_short, bad_call}
@@ -58,7 +58,7 @@ module _ (m : Message) {R : Type 0} {own : Record → R} {of : R → Record} (o 
   -- the test of the buffer's length decides
   pub record Filling (n : ℕ) (k : Cursor) : Type 0 where
     pub on : c.at ≤ k.at
-    pub few : c.end ≤ 32768 → 64 * (k.at - c.at) < 2 ^ 64
+    pub few : c.end ≤ 32768 → k.at - c.at ≤ 32768
     pub short : leb (length (flat_form m n (of y.«record»))) (length flat) ≡ false → Filled (number_of window_too_short) flat
     pub long : leb (length (flat_form m n (of y.«record»))) (length flat) ≡ true → Filled (64 * (k.at - c.at)) (sets flat 0 (flat_form m n (of y.«record»)))
 

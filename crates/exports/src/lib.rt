@@ -18,15 +18,15 @@ use messages::d_location_update_accept::DLocationUpdateAccept;
 use messages::u_location_update_demand::ULocationUpdateDemand;
 use messages::{Message, SKIPPING, STRICT, is_good_call, message_named};
 
-// A call's answer: 64 × the bits consumed or written, or the refusal.
-type Bits = Result<u64, PduParseErr>;
+// A call's answer: the bits consumed or written, or the refusal.
+type Bits = Result<u32, PduParseErr>;
 
-// The answer as one number.
+// The answer as one number: 64 × the bits, or the refusal's number.
 fn numbered(r: Bits) -> u64
     ensures { result ≡ numbered r }
 {
     match r {
-        Ok(bits) => bits,
+        Ok(bits) => 64 * bits as u64,
         Err(e) => e.number() as u64,
     }
 }
@@ -40,7 +40,7 @@ fn read_into<M: Flat>(octets: &[u8], c: Cursor, skipping: bool, flat: &mut [u8])
     let a = M::from_bitbuf(c, octets, skipping);
     let (n, c1) = a.verdict?;
     if a.record.fill(flat, n) {
-        return Ok(64 * (c1.at - c.at) as u64);
+        return Ok((c1.at - c.at) as u32);
     }
     Err(PduParseErr::WindowTooShort)
 }
@@ -97,7 +97,7 @@ fn rewrite<M: PduWriter>(octets: &[u8], c: Cursor, out: &mut [u8], to: Cursor) -
         a.verdict?;
         let w = write_as(out, to, a.record);
         w.verdict?;
-        return Ok(64 * w.written as u64);
+        return Ok(w.written as u32);
     }
     Err(PduParseErr::BadCall)
 }

@@ -17,10 +17,11 @@ overflow_sub-result g c =
     let a = c.args in
     (filled-read (message_of g.M.Pdu.TYPE) g.met.M.Pdu.is_own a.skipping a.octets.now a.c a.flat.now c.from_bitbuf-a.ensures c.in_ok-n.was).on
 
-pub overflow_mul-result : goal.overflow_mul-result
-overflow_mul-result g c =
+pub overflow_cast-result : goal.overflow_cast-result
+overflow_cast-result g c =
     let a = c.args in
-    omega (arith, (filled-read (message_of g.M.Pdu.TYPE) g.met.M.Pdu.is_own a.skipping a.octets.now a.c a.flat.now c.from_bitbuf-a.ensures c.in_ok-n.was).few c.requires.1)
+    let few = (filled-read (message_of g.M.Pdu.TYPE) g.met.M.Pdu.is_own a.skipping a.octets.now a.c a.flat.now c.from_bitbuf-a.ensures c.in_ok-n.was).few c.requires.1 in
+    record { fits = omega arith }
 
 pub returns-then-fill : goal.returns-then-fill
 returns-then-fill g c =

@@ -18,10 +18,11 @@ returns-in_err-w g c =
     c.write_as-w.ensures.answer c.write_as-w.ensures.octets in
     record { result = numbered-up _ _ c.from_residual-in_err-w.ensures.1 (written-refused _ c.in_err-w.was ∙ r.0); octets = r.1 }
 
-pub overflow_mul-result : goal.overflow_mul-result
-overflow_mul-result g c =
+pub overflow_cast-result : goal.overflow_cast-result
+overflow_cast-result g c =
     let a = c.args in
-    rw c.write_as-w.ensures.answer (omega (arith, written-most g.M.Pdu.TYPE a.out.now a.to.at a.to.end (g.M.OwnRecord.of c.from_bitbuf-a.result.«record»)))
+    let most = written-most g.M.Pdu.TYPE a.out.now a.to.at a.to.end (g.M.OwnRecord.of c.from_bitbuf-a.result.«record») in
+    record { fits = rw c.write_as-w.ensures.answer (omega arith) }
 
 pub returns-then-is_good_call : goal.returns-then-is_good_call
 returns-then-is_good_call g c =

@@ -19,5 +19,6 @@ pub returns : goal.returns
 returns g c =
     let k = g.L.ListWriter in
     let a = c.args in
-    nested-absent g.L.GroupList.kind (group_parts k.bits k.forms k.attachment k.detachment k.address) k.IDENTIFIER (bits_in a.front) a.size a.list.now (sym c.presence-listed.ensures ∙ c.if-listed.false)
+    nested-absent g.L.GroupList.kind (group_parts k.bits k.forms k.attachment k.detachment k.address) k.IDENTIFIER (bits_in a.front) a.size a.list.now
+    (sym c.presence-listed.ensures ∙ c.if-listed.false)
     (field (behind (rw c.presence-listed.ensures at c.then.ensures)) (flag_fits a.front _ c.requires) c.put-c1.ensures)

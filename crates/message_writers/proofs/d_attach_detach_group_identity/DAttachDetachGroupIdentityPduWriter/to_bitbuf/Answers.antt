@@ -25,7 +25,8 @@ returns-then-h-eq1 c =
     let a = c.args in
     let q = (asked ((goal.at.returns-then-h-eq1 c).After-first_no)).holds in
     let h = ap (λ (x : AttachDetachHead). x.obit) c.head_of-h.ensures in
-    message-written q (λ i. (c.slice_known-1.given i).fits) c.in_ok-first_no.was ((attach_detach-in_parts a.«self» c.ask_list-a.ensures.0 (all-passed q c.in_ok-first_no.was).type3_only).all (bit-one _ (sym h ∙ c.if-h-eq1.true)))
+    message-written q (λ i. (c.slice_known-1.given i).fits) c.in_ok-first_no.was
+    ((attach_detach-in_parts a.«self» c.ask_list-a.ensures.0 (all-passed q c.in_ok-first_no.was).type3_only).all (bit-one _ (sym h ∙ c.if-h-eq1.true)))
     (field (rw c.head_of-h.ensures at c.front.ensures) (front-most (attach_detach_head_in a.«self»)) c.put-c1.ensures ⨾ c.write_elements.ensures)
 
 pub returns : goal.returns
@@ -34,7 +35,8 @@ returns c =
     let a = c.args in
     let q = (asked ((goal.at.returns c).After-first_no)).holds in
     let h = ap (λ (x : AttachDetachHead). x.obit) c.head_of-h.ensures in
-    message-written q (λ i. (c.slice_known-1.given i).fits) c.in_ok-first_no.was ((attach_detach-in_parts a.«self» c.ask_list-a.ensures.0 (all-passed q c.in_ok-first_no.was).type3_only).alone (bit-other _ (λ e. c.if-h-eq1.false (h ∙ e))))
+    message-written q (λ i. (c.slice_known-1.given i).fits) c.in_ok-first_no.was
+    ((attach_detach-in_parts a.«self» c.ask_list-a.ensures.0 (all-passed q c.in_ok-first_no.was).type3_only).alone (bit-other _ (λ e. c.if-h-eq1.false (h ∙ e))))
     (field (rw c.head_of-h.ensures at c.front.ensures) (front-most (attach_detach_head_in a.«self»)) c.put-c1.ensures)
 
 pub returns-in_err-first_no : goal.returns-in_err-first_no

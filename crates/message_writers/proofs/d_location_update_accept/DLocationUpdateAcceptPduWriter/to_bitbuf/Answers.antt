@@ -12,7 +12,8 @@ use Rattle.message_writers.proofs.d_location_update_accept.DLocationUpdateAccept
 abbrev asked : After-first_no → Fact
 asked v =
     let a = v.args in
-    fact (asking (v.ask-answers.ensures a.«self» (record { head = v.head_of-h.ensures; rest = v.rest_of-rest.ensures; there = refl; asked = v.ask_location_accept-asked.ensures.0; generics = v.generics_of-g.ensures })) a.octets.now a.c v.first_no.result v.first_no.ensures)
+    fact (asking (v.ask-answers.ensures a.«self»
+    (record { head = v.head_of-h.ensures; rest = v.rest_of-rest.ensures; there = refl; asked = v.ask_location_accept-asked.ensures.0; generics = v.generics_of-g.ensures })) a.octets.now a.c v.first_no.result v.first_no.ensures)
 
 pub write_behind-requires : goal.write_behind-requires
 write_behind-requires c =
@@ -23,15 +24,18 @@ returns-then-h-eq1 c =
     let a = c.args in
     let q = (asked ((goal.at.returns-then-h-eq1 c).After-first_no)).holds in
     let h = ap (λ (x : AcceptHead). x.obit) c.head_of-h.ensures in
-    message-written q (λ i. (c.slice_known-1.given i).fits) c.in_ok-first_no.was ((accept-in_parts a.«self» c.ask_location_accept-asked.ensures.0 (all-passed q c.in_ok-first_no.was).type3_only).all (bit-one _ (sym h ∙ c.if-h-eq1.true)))
-    (field (rw c.head_of-h.ensures at c.front.ensures) (front-most (accept_head_in a.«self»)) c.put-c1.ensures ⨾ (rw (c.head_of-h.ensures, c.rest_of-rest.ensures, c.generics_of-g.ensures) at c.write_behind.ensures))
+    message-written q (λ i. (c.slice_known-1.given i).fits) c.in_ok-first_no.was
+    ((accept-in_parts a.«self» c.ask_location_accept-asked.ensures.0 (all-passed q c.in_ok-first_no.was).type3_only).all (bit-one _ (sym h ∙ c.if-h-eq1.true)))
+    (field (rw c.head_of-h.ensures at c.front.ensures) (front-most (accept_head_in a.«self»)) c.put-c1.ensures
+    ⨾ (rw (c.head_of-h.ensures, c.rest_of-rest.ensures, c.generics_of-g.ensures) at c.write_behind.ensures))
 
 pub returns : goal.returns
 returns c =
     let a = c.args in
     let q = (asked ((goal.at.returns c).After-first_no)).holds in
     let h = ap (λ (x : AcceptHead). x.obit) c.head_of-h.ensures in
-    message-written q (λ i. (c.slice_known-1.given i).fits) c.in_ok-first_no.was ((accept-in_parts a.«self» c.ask_location_accept-asked.ensures.0 (all-passed q c.in_ok-first_no.was).type3_only).alone (bit-other _ (λ e. c.if-h-eq1.false (h ∙ e))))
+    message-written q (λ i. (c.slice_known-1.given i).fits) c.in_ok-first_no.was
+    ((accept-in_parts a.«self» c.ask_location_accept-asked.ensures.0 (all-passed q c.in_ok-first_no.was).type3_only).alone (bit-other _ (λ e. c.if-h-eq1.false (h ∙ e))))
     (field (rw c.head_of-h.ensures at c.front.ensures) (front-most (accept_head_in a.«self»)) c.put-c1.ensures)
 
 pub returns-in_err-first_no : goal.returns-in_err-first_no

@@ -21,24 +21,82 @@ returns-then-not-self-4 c = rw (not-false _ c.if-not-self.false, not-false _ c.i
 
 pub returns-then-not-self-5 : goal.returns-then-not-self-5
 unfolding first_no
-returns-then-not-self-5 c = rw (not-false _ c.if-not-self.false, not-false _ c.if-not-self-2.false, not-false _ c.if-not-self-3.false, not-false _ c.if-not-self-4.false, not-true _ c.if-not-self-5.true)
+returns-then-not-self-5 c =
+    rw (
+      not-false _ c.if-not-self.false,
+      not-false _ c.if-not-self-2.false,
+      not-false _ c.if-not-self-3.false,
+      not-false _ c.if-not-self-4.false,
+      not-true _ c.if-not-self-5.true,
+    )
 
 pub returns-then-not-self-6 : goal.returns-then-not-self-6
 unfolding first_no
-returns-then-not-self-6 c = rw (not-false _ c.if-not-self.false, not-false _ c.if-not-self-2.false, not-false _ c.if-not-self-3.false, not-false _ c.if-not-self-4.false, not-false _ c.if-not-self-5.false, not-true _ c.if-not-self-6.true)
+returns-then-not-self-6 c =
+    rw (
+      not-false _ c.if-not-self.false,
+      not-false _ c.if-not-self-2.false,
+      not-false _ c.if-not-self-3.false,
+      not-false _ c.if-not-self-4.false,
+      not-false _ c.if-not-self-5.false,
+      not-true _ c.if-not-self-6.true,
+    )
 
 pub returns-then-not-self-7 : goal.returns-then-not-self-7
 unfolding first_no
-returns-then-not-self-7 c = rw (not-false _ c.if-not-self.false, not-false _ c.if-not-self-2.false, not-false _ c.if-not-self-3.false, not-false _ c.if-not-self-4.false, not-false _ c.if-not-self-5.false, not-false _ c.if-not-self-6.false, not-true _ c.if-not-self-7.true)
+returns-then-not-self-7 c =
+    rw (
+      not-false _ c.if-not-self.false,
+      not-false _ c.if-not-self-2.false,
+      not-false _ c.if-not-self-3.false,
+      not-false _ c.if-not-self-4.false,
+      not-false _ c.if-not-self-5.false,
+      not-false _ c.if-not-self-6.false,
+      not-true _ c.if-not-self-7.true,
+    )
 
 pub returns-then-not-self-8 : goal.returns-then-not-self-8
 unfolding first_no
-returns-then-not-self-8 c = rw (not-false _ c.if-not-self.false, not-false _ c.if-not-self-2.false, not-false _ c.if-not-self-3.false, not-false _ c.if-not-self-4.false, not-false _ c.if-not-self-5.false, not-false _ c.if-not-self-6.false, not-false _ c.if-not-self-7.false, not-true _ c.if-not-self-8.true)
+returns-then-not-self-8 c =
+    rw (
+      not-false _ c.if-not-self.false,
+      not-false _ c.if-not-self-2.false,
+      not-false _ c.if-not-self-3.false,
+      not-false _ c.if-not-self-4.false,
+      not-false _ c.if-not-self-5.false,
+      not-false _ c.if-not-self-6.false,
+      not-false _ c.if-not-self-7.false,
+      not-true _ c.if-not-self-8.true,
+    )
 
 pub returns-then-not-holds : goal.returns-then-not-holds
 unfolding first_no
-returns-then-not-holds c = rw (not-false _ c.if-not-self.false, not-false _ c.if-not-self-2.false, not-false _ c.if-not-self-3.false, not-false _ c.if-not-self-4.false, not-false _ c.if-not-self-5.false, not-false _ c.if-not-self-6.false, not-false _ c.if-not-self-7.false, not-false _ c.if-not-self-8.false, ← c.holds.ensures, c.if-not-holds.true)
+returns-then-not-holds c =
+    rw (
+      not-false _ c.if-not-self.false,
+      not-false _ c.if-not-self-2.false,
+      not-false _ c.if-not-self-3.false,
+      not-false _ c.if-not-self-4.false,
+      not-false _ c.if-not-self-5.false,
+      not-false _ c.if-not-self-6.false,
+      not-false _ c.if-not-self-7.false,
+      not-false _ c.if-not-self-8.false,
+      ← c.holds.ensures,
+      c.if-not-holds.true,
+    )
 
 pub returns : goal.returns
 unfolding first_no
-returns c = rw (not-false _ c.if-not-self.false, not-false _ c.if-not-self-2.false, not-false _ c.if-not-self-3.false, not-false _ c.if-not-self-4.false, not-false _ c.if-not-self-5.false, not-false _ c.if-not-self-6.false, not-false _ c.if-not-self-7.false, not-false _ c.if-not-self-8.false, ← c.holds.ensures, c.if-not-holds.false)
+returns c =
+    rw (
+      not-false _ c.if-not-self.false,
+      not-false _ c.if-not-self-2.false,
+      not-false _ c.if-not-self-3.false,
+      not-false _ c.if-not-self-4.false,
+      not-false _ c.if-not-self-5.false,
+      not-false _ c.if-not-self-6.false,
+      not-false _ c.if-not-self-7.false,
+      not-false _ c.if-not-self-8.false,
+      ← c.holds.ensures,
+      c.if-not-holds.false,
+    )
