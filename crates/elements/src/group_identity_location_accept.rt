@@ -58,18 +58,23 @@ impl ReadStructure for GroupIdentityLocationAccept {
         let Ok(c2) = p else {
             return refused(p.unwrap_err());
         };
-        let r = read_nested::<OptionalDownlinks>(c2, octets, GROUP_IDENTITY_DOWNLINK);
-        let v = r.verdict;
+        let mut value = GroupIdentityLocationAccept {
+            group_identity_accept_reject: accept_reject,
+            group_identity_downlink: no_list(),
+        };
+        let v = read_nested(
+            c2,
+            octets,
+            GROUP_IDENTITY_DOWNLINK,
+            &mut value.group_identity_downlink,
+        );
         let Ok(c3) = v else {
             return refused(v.unwrap_err());
         };
         if c3.at - c.at == len {
             return Judged {
                 verdict: Ok(c3),
-                value: GroupIdentityLocationAccept {
-                    group_identity_accept_reject: accept_reject,
-                    group_identity_downlink: r.value,
-                },
+                value,
             };
         }
         refused(PduParseErr::InconsistentLength)

@@ -61,18 +61,23 @@ impl ReadStructure for GroupIdentityLocationDemand {
         let Ok((mode, c2)) = m else {
             return refused(m.unwrap_err());
         };
-        let r = read_nested::<OptionalUplinks>(c2, octets, GROUP_IDENTITY_UPLINK);
-        let v = r.verdict;
+        let mut value = GroupIdentityLocationDemand {
+            group_identity_attach_detach_mode: mode,
+            group_identity_uplink: no_list(),
+        };
+        let v = read_nested(
+            c2,
+            octets,
+            GROUP_IDENTITY_UPLINK,
+            &mut value.group_identity_uplink,
+        );
         let Ok(c3) = v else {
             return refused(v.unwrap_err());
         };
         if c3.at - c.at == len {
             return Judged {
                 verdict: Ok(c3),
-                value: GroupIdentityLocationDemand {
-                    group_identity_attach_detach_mode: mode,
-                    group_identity_uplink: r.value,
-                },
+                value,
             };
         }
         refused(PduParseErr::InconsistentLength)

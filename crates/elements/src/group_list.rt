@@ -7,7 +7,7 @@ ghost use Rattle.elements.specs.Locations.{nested};
 ghost use Rattle.elements.specs.GroupAnswers.{list_answer, nested_slot_if};
 
 use crate::typed_pdu_fields::{Judged, read_closing_mbit_if, read_list_front};
-use bits::bitbuffer::{Cursor, Read};
+use bits::bitbuffer::{Cursor, Moved, Read};
 use bits::pdu_parse_error::PduParseErr;
 
 // A list of groups of one kind, which may be absent.
@@ -38,18 +38,50 @@ pub fn no_list<L: GroupList>() -> L
     L::zeros(false, 0)
 }
 
-// A refusal, and an absent list beside it.
-fn refused<L: GroupList>(e: PduParseErr) -> Judged<L>
-    ensures { result ≡ list_answer L.kind (halted e) }
+// A refusal, and the list absent beside it.
+fn refused<L: GroupList>(e: PduParseErr, list: &mut L) -> Moved
+    ensures { record { verdict = result; value = list.new } ≡ list_answer L.kind (halted e) }
 {
-    Judged {
-        verdict: Err(e),
-        value: no_list(),
-    }
+    *list = no_list();
+    Err(e)
 }
 
-// The slot of a list of groups, where there is such a slot: the list has to end where its length said. A list without groups is
-// given at once: an array that nothing is put into needn't be copied (DECISIONS 34).
+// The slot of a list of groups, where there is such a slot, read into `list`: handed up, a list would be copied at each step
+// (docs/SPEED.md). It has to end where its length said.
+fn read_list<L: GroupList>(
+    c: Cursor,
+    octets: &[u8],
+    there: bool,
+    identifier: u8,
+    list: &mut L,
+) -> Moved
+    ensures { record { verdict = result; value = list.new } ≡ list_answer L.kind (at (nested_slot_if L.kind identifier there) octets.now c) }
+{
+    let l = read_list_front(c, octets, there, identifier);
+    let Ok((front, first)) = l else {
+        return refused(l.unwrap_err(), list);
+    };
+    let Some(front) = front else {
+        *list = no_list();
+        return Ok(first);
+    };
+    *list = L::zeros(true, front.count);
+    let mut place = first;
+    for i in 0..front.count {
+        let f = L::read_group(place, octets);
+        let Ok((g, next)) = f else {
+            return refused(f.unwrap_err(), list);
+        };
+        list.put(i, g);
+        place = next;
+    }
+    if place.at - first.at == front.len {
+        return Ok(place);
+    }
+    refused(PduParseErr::InconsistentLength, list)
+}
+
+// The same with the list handed back.
 pub fn read_list_slot<L: GroupList>(
     c: Cursor,
     octets: &[u8],
@@ -58,60 +90,34 @@ pub fn read_list_slot<L: GroupList>(
 ) -> Judged<L>
     ensures { result ≡ list_answer L.kind (at (nested_slot_if L.kind identifier there) octets.now c) }
 {
-    let l = read_list_front(c, octets, there, identifier);
-    let Ok((front, first)) = l else {
-        return refused(l.unwrap_err());
-    };
-    let Some(front) = front else {
-        return Judged {
-            verdict: Ok(first),
-            value: no_list(),
-        };
-    };
-    if (front.count == 0) & (front.len == 0) {
-        return Judged {
-            verdict: Ok(first),
-            value: L::zeros(true, 0),
-        };
+    let mut list = no_list();
+    let verdict = read_list(c, octets, there, identifier, &mut list);
+    Judged {
+        verdict,
+        value: list,
     }
-    let mut list = L::zeros(true, front.count);
-    let mut place = first;
-    for i in 0..front.count {
-        let f = L::read_group(place, octets);
-        let Ok((g, next)) = f else {
-            return refused(f.unwrap_err());
-        };
-        list.put(i, g);
-        place = next;
-    }
-    if place.at - first.at == front.len {
-        return Judged {
-            verdict: Ok(place),
-            value: list,
-        };
-    }
-    refused(PduParseErr::InconsistentLength)
 }
 
-// The list inside a structure: the O-bit, and behind an O-bit of 1 the list's slot and the closing M-bit.
-pub(crate) fn read_nested<L: GroupList>(c: Cursor, octets: &[u8], identifier: u8) -> Judged<L>
-    ensures { result ≡ list_answer L.kind (at (nested L.kind identifier) octets.now c) }
+// The list inside a structure, read into `list`: the O-bit, and behind an O-bit of 1 the list's slot and the closing M-bit.
+pub(crate) fn read_nested<L: GroupList>(
+    c: Cursor,
+    octets: &[u8],
+    identifier: u8,
+    list: &mut L,
+) -> Moved
+    ensures { record { verdict = result; value = list.new } ≡ list_answer L.kind (at (nested L.kind identifier) octets.now c) }
 {
     let o = c.read::<u8>(octets, 1);
     let Ok((obit, c1)) = o else {
-        return refused(o.unwrap_err());
+        return refused(o.unwrap_err(), list);
     };
-    let r = read_list_slot(c1, octets, obit == 1, identifier);
-    let v = r.verdict;
+    let v = read_list(c1, octets, obit == 1, identifier, list);
     let Ok(c2) = v else {
-        return r;
+        return v;
     };
     let e = read_closing_mbit_if(c2, octets, obit == 1);
     let Ok(c3) = e else {
-        return refused(e.unwrap_err());
+        return refused(e.unwrap_err(), list);
     };
-    Judged {
-        verdict: Ok(c3),
-        value: r.value,
-    }
+    Ok(c3)
 }

@@ -12,8 +12,8 @@ use Rattle.elements.proofs.group_list.read_nested.Goals.{In-Ok-v}
 
 -- the list's slot
 slotted : (g : _) (c : In-Ok-v g) → let a = c.args in
-    Gives (nested_slot_if g.L.GroupList.kind a.identifier (eqb c.in-Ok.obit 1)) a.octets.now c.in-Ok.c1 (placed c.read_list_slot-r.result.value c.in-Ok-v.c2)
-slotted g c = verdict_to _ c.read_list_slot-r.ensures c.in-Ok-v.is
+    Gives (nested_slot_if g.L.GroupList.kind a.identifier (eqb c.in-Ok.obit 1)) a.octets.now c.in-Ok.c1 (placed c.read_list-v.new.list c.in-Ok-v.c2)
+slotted g c = verdict_to _ c.read_list-v.ensures c.in-Ok-v.is
 
 pub returns-in_default : goal.returns-in_default
 unfolding word
@@ -25,8 +25,8 @@ pub returns-in_default-v : goal.returns-in_default-v
 unfolding word
 returns-in_default-v g c =
     let k = g.L.GroupList.kind in
-    let e = verdict_refused _ c.read_list_slot-r.ensures c.in_default-v.is in
-    returned (list_answer k) c.read_list_slot-r.ensures e (list-refused k g.met.L.GroupList.local _ (from c.in-Ok.ensures) e)
+    let e = verdict_refused _ c.read_list-v.ensures c.in_default-v.is in
+    returned (list_answer k) c.read_list-v.ensures e (list-refused k g.met.L.GroupList.local _ (from c.in-Ok.ensures) e)
 
 pub returns-in_default-e : goal.returns-in_default-e
 unfolding word

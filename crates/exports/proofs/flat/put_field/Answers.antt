@@ -1,4 +1,4 @@
--- `exports::flat::put_field` meets its contract: the presence octet, and the number's octets copied behind it.
+-- `exports::flat::put_field` meets its contract: the presence octet, and behind it the octets of the number.
 use native.Mathlib.Omega.{arith}
 use mathlib.Core.Path.{◌≡◌, refl}
 use Prim.Native.Nat.{suc, ◌+◌, ◌-◌, ◌≤◌}
@@ -18,4 +18,4 @@ returns c =
     let size : a.at + 9 - (a.at + 1) ≡ 8 = omega arith in
     let shown : c.if-present.shown ≡ cond a.present a.value 0 = elim c.if-present.branch [ then-present w ↦ rw w.if-present.true w.shown-is | else-present w ↦ rw w.if-present.false w.shown-is ] in
     let room : a.at + 1 + 8 ≤ length f = rw (length-set a.flat.now a.at (bit a.present)) (omega arith) in
-    put (rw (size, c.copy_from_slice.ensures.after, c.to_be_bytes.ensures, shown, ← next) (copied f (a.at + 1) 8 (to_be_bytes w64 (cond a.present a.value 0)) refl room)) refl
+    put (rw (size, c.put_octets.ensures, c.to_be_bytes.ensures, shown, ← next) (copied f (a.at + 1) 8 (to_be_bytes w64 (cond a.present a.value 0)) refl room)) refl

@@ -25,8 +25,8 @@ unfolding word accept_body
 list-behind c x g = step _ (from c.in-Ok.ensures) (search local·rules) (step _ (from c.in-Ok-p.ensures) (search local·rules) g)
 
 -- the list, with the closing M-bit
-closed : (c : In-Ok-v) → Gives (nested downlinks group_identity_downlink_identifier) c.args.octets.now c.in-Ok-p.c2 (placed c.read_nested-r.result.value c.in-Ok-v.c3)
-closed c = verdict_to _ c.read_nested-r.ensures c.in-Ok-v.is
+closed : (c : In-Ok-v) → Gives (nested downlinks group_identity_downlink_identifier) c.args.octets.now c.in-Ok-p.c2 (placed c.read_nested-v.new.list c.in-Ok-v.c3)
+closed c = verdict_to _ c.read_nested-v.ensures c.in-Ok-v.is
 
 pub returns-in_default : goal.returns-in_default
 unfolding word accept_body location_accept
@@ -44,7 +44,7 @@ unfolding location_accept
 returns-in_default-v c =
     c.refused-in_default-v.ensures ∙ answer (structure_answer location_accepts)
     (structure-refused downlinks_sound group_identity_downlink_identifier _ (local_tail accept_laws.body-local) (list-behind ((goal.at.returns-in_default-v c).In-Ok-p)) c.args.len
-    (verdict_refused _ c.read_nested-r.ensures c.unwrap_err-in_default-v.ensures))
+    (verdict_refused _ c.read_nested-v.ensures c.unwrap_err-in_default-v.ensures))
 
 pub overflow_sub-c3 : goal.overflow_sub-c3
 overflow_sub-c3 c =

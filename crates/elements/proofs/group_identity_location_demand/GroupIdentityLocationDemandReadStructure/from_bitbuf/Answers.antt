@@ -43,8 +43,8 @@ list-behind c x g =
     mode-behind (from c.in-Ok.ensures) unset x (step _ (from c.in-Ok-m.ensures) (search local·rules) g)
 
 -- the list, with the closing M-bit
-closed : (c : In-Ok-v) → Gives (nested uplinks group_identity_uplink_identifier) c.args.octets.now c.in-Ok-m.c2 (placed c.read_nested-r.result.value c.in-Ok-v.c3)
-closed c = verdict_to _ c.read_nested-r.ensures c.in-Ok-v.is
+closed : (c : In-Ok-v) → Gives (nested uplinks group_identity_uplink_identifier) c.args.octets.now c.in-Ok-m.c2 (placed c.read_nested-v.new.list c.in-Ok-v.c3)
+closed c = verdict_to _ c.read_nested-v.ensures c.in-Ok-v.is
 
 pub returns-in_default : goal.returns-in_default
 unfolding word demand_body location_demand
@@ -69,7 +69,7 @@ unfolding location_demand
 returns-in_default-v c =
     c.refused-in_default-v.ensures ∙ answer (structure_answer location_demands)
     (structure-refused uplinks_sound group_identity_uplink_identifier _ (local_tail demand_laws.body-local) (list-behind ((goal.at.returns-in_default-v c).In-Ok-m)) c.args.len
-    (verdict_refused _ c.read_nested-r.ensures c.unwrap_err-in_default-v.ensures))
+    (verdict_refused _ c.read_nested-v.ensures c.unwrap_err-in_default-v.ensures))
 
 pub overflow_sub-c3 : goal.overflow_sub-c3
 overflow_sub-c3 c =

@@ -1,4 +1,4 @@
--- `elements::group_list::read_list_slot` meets its contract: by the laws of a list's slot.
+-- `elements::group_list::read_list` meets its contract: by the laws of a list's slot.
 use Rattle.std.specs.Prelude.{Some}
 use Rattle.std.proofs.Common.{sym, ◌∙◌}
 use Rattle.bits.specs.Placed.{placed}
@@ -7,9 +7,9 @@ use Rattle.elements.specs.Fronts.{list_front}
 use Rattle.elements.specs.GroupAnswers.{list_answer}
 use Rattle.elements.proofs.Verdicts.{answer}
 use Rattle.elements.proofs.PlacedOptional.{known}
-use Rattle.elements.proofs.PlacedLists.{list_zeros, list_put, no_front_lem, list-absent, group-refused, group-read, list_on, list-whole, list-inexact, list_none}
-use Rattle.elements.proofs.group_list.read_list_slot.Goals as goal
-use Rattle.elements.proofs.group_list.read_list_slot.Goals.{In-Some}
+use Rattle.elements.proofs.PlacedLists.{list_zeros, list_put, no_front_lem, list-absent, group-refused, group-read, list_on, list-whole, list-inexact}
+use Rattle.elements.proofs.group_list.read_list.Goals as goal
+use Rattle.elements.proofs.group_list.read_list.Goals.{In-Some}
 
 -- the front is read
 fronted : (g : _) (c : In-Some g) → let a = c.args in
@@ -26,13 +26,8 @@ returns-in_default-front g c =
     let k = g.L.GroupList.kind in
     rw c.no_list.ensures (answer (list_answer k) (list-absent k c.args.identifier c.args.there (known (from c.in-Ok.ensures) c.in_default-front.is)))
 
-pub returns-then-front : goal.returns-then-front
-returns-then-front g c =
-    let k = g.L.GroupList.kind in
-    rw c.zeros.ensures (answer (list_answer k) (list_none k g.met.L.GroupList.local _ _ (fronted g (goal.at.returns-then-front g c).In-Some) c.if-front.true))
-
 pub loop-i-init : goal.loop-i-init
-loop-i-init g c = list_zeros g.L.GroupList.kind g.met.L.GroupList.made c.zeros-list.ensures
+loop-i-init g c = list_zeros g.L.GroupList.kind g.met.L.GroupList.made c.zeros.ensures
 
 pub returns-in_default-f : goal.returns-in_default-f
 returns-in_default-f g c =
