@@ -1,6 +1,6 @@
 -- Lists of groups, read at a cursor: for any kind of group.
-use Rattle.std.specs.Prelude.{ℕ, ◌+◌, ◌-◌, ◌≤◌, ◌<◌, ◌^◌, ◌≡◌, Bool, ◌&&◌, List, ◌++◌, take, drop, set, replicate, leb, eqb}
-use Rattle.std.proofs.Common.{arith, ◌∙◌, length-set, length-take-le, le-leb, eqb-true}
+use Rattle.std.specs.Prelude.{ℕ, ◌+◌, ◌-◌, ◌≤◌, ◌<◌, ◌^◌, ◌≡◌, Bool, List, ◌++◌, take, drop, set, replicate, leb}
+use Rattle.std.proofs.Common.{arith, ◌∙◌, length-set, length-take-le, le-leb}
 use Rattle.std.proofs.Math.Path.{refl, sym, ap}
 use Rattle.std.proofs.Math.Bool.{true, false}
 use Rattle.std.specs.Prelude.{None, Some}
@@ -16,8 +16,6 @@ use Rattle.bits.specs.PlacedTimes.{alike, exact, inexact, exact-stop, passed, fa
 use Rattle.bits.specs.declared.bitbuffer.Cursor.{Cursor}
 use Rattle.elements.specs.Generics.{entries_width, entries}
 use Rattle.elements.specs.Numbers.{value_or}
-use Rattle.elements.proofs.NumbersLaws.{both}
-use Rattle.elements.proofs.PlacedOptional.{known}
 use Rattle.elements.specs.Table.{length_width, look, Header, header}
 use Rattle.elements.proofs.TableLaws.{two_slots, slot_cases, slot_tail}
 use Rattle.elements.specs.Lists.{Groups, Made, list_as, list_of, groups_as, list, entries_most}
@@ -186,16 +184,6 @@ module _ {G L : Type 0} (k : Groups G L) (s : Local k.group) (i : ℕ) (b : Bool
 
     pub list-inexact : (place.at - c₁.at ≡ f.len → ⊥) → Gives (nested_slot_if k i b) os c (halted inconsistent_length)
     list-inexact q = behind (inexact _ all_there (local_tail (entries-local k s true f.count)) q)
-
--- a list without groups, and without bits for them
-pub list_none : {G L : Type 0} (k : Groups G L) (s : Local k.group) (i : ℕ) (b : Bool) {os : List ℕ} {c : Cursor} {f : ListFront} {c₁ : Cursor}
-    → Gives (list_front i b) os c (placed (Some f) c₁) → (eqb f.count 0 && eqb f.len 0) ≡ true
-    → Gives (nested_slot_if k i b) os c (placed (k.make true 0 (replicate entries_most k.zero)) c₁)
-list_none k s i b {f = f} e h =
-    let x = both (eqb f.count 0) _ h in
-    let n = eqb-true f.count 0 x.0 in
-    let m = eqb-true f.len 0 x.1 in
-    known (list-whole k s i b e (filled_none k _) (omega arith) (omega arith)) (ap (λ m. k.make true m (replicate entries_most k.zero)) n)
 
 -- ## a list that is filled in place
 
