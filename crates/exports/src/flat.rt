@@ -22,7 +22,7 @@ use messages::d_attach_detach_group_identity::DAttachDetachGroupIdentity;
 use messages::d_location_update_accept::DLocationUpdateAccept;
 use messages::u_location_update_demand::ULocationUpdateDemand;
 
-// Eight octets in the place of eight: as an array, since a copy between slices would ask each time whether they overlap (docs/SPEED.md).
+// Eight octets in the place of eight. As an array: a copy between slices asks each time whether they overlap (docs/SPEED.md).
 fn put_octets(part: &mut [u8], octets: [u8; 8])
     requires { length part.old ≡ 8 }
     ensures { part.new ≡ octets }
