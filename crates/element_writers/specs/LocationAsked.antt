@@ -55,17 +55,17 @@ abbrev pub accept_location_asked : OptionalLocationAccept → LocationAsked
 accept_location_asked o =
     asked_location downlinks location_accept_fits location_accept_bits (λ d. d.group_identity_downlink) (held o.present o.value)
 
--- the parts, where the list's content has m bits and the structure's n
-abbrev pub demand_location_parts : ℕ → ℕ → OptionalLocationDemand → List Bits
-demand_location_parts m n o =
+-- the parts, with identifier i, where the list's content has m bits and the structure's n
+abbrev pub demand_location_parts : ℕ → ℕ → ℕ → OptionalLocationDemand → List Bits
+demand_location_parts i m n o =
     cond o.present
-    (nested_parts uplinks uplink_parts group_identity_uplink_identifier (structure_front 3 n 0 o.value.group_identity_attach_detach_mode) m o.value.group_identity_uplink)
+    (nested_parts uplinks uplink_parts group_identity_uplink_identifier (structure_front i n 0 o.value.group_identity_attach_detach_mode) m o.value.group_identity_uplink)
     []
 
-abbrev pub accept_location_parts : ℕ → ℕ → OptionalLocationAccept → List Bits
-accept_location_parts m n o =
+abbrev pub accept_location_parts : ℕ → ℕ → ℕ → OptionalLocationAccept → List Bits
+accept_location_parts i m n o =
     cond o.present
-    (nested_parts downlinks downlink_parts group_identity_downlink_identifier (structure_front 5 n o.value.group_identity_accept_reject 0) m o.value.group_identity_downlink)
+    (nested_parts downlinks downlink_parts group_identity_downlink_identifier (structure_front i n o.value.group_identity_accept_reject 0) m o.value.group_identity_downlink)
     []
 
 -- ## laws
@@ -104,16 +104,16 @@ location_accept-asked d e =
     located_asked downlinks downlink_parts group_identity_downlink_identifier downlink_parts_lem (λ d. d.group_identity_downlink) (λ d. d.group_identity_accept_reject) (λ d. 0)
     location_accept_fits (in_width flag_width d.group_identity_accept_reject) d refl e
 
-pub location_demand-joined : (o : OptionalLocationDemand) {a : LocationAsked} → a ≡ demand_location_asked o
-    → joined (demand_location_parts a.list a.content o) ≡ optional_bits 3 location_demand_bits (held o.present o.value)
+pub location_demand-joined : (i : ℕ) (o : OptionalLocationDemand) {a : LocationAsked} → a ≡ demand_location_asked o
+    → joined (demand_location_parts i a.list a.content o) ≡ optional_bits i location_demand_bits (held o.present o.value)
 unfolding location_demand_bits
-location_demand-joined o e =
+location_demand-joined i o e =
     located_joined uplinks uplink_parts group_identity_uplink_identifier uplink_parts_lem (λ d. d.group_identity_uplink) (λ d. 0) (λ d. d.group_identity_attach_detach_mode)
-    3 o.present o.value (ap (λ (x : LocationAsked). x.list) e) (ap (λ (x : LocationAsked). x.content) e)
+    i o.present o.value (ap (λ (x : LocationAsked). x.list) e) (ap (λ (x : LocationAsked). x.content) e)
 
-pub location_accept-joined : (o : OptionalLocationAccept) {a : LocationAsked} → a ≡ accept_location_asked o
-    → joined (accept_location_parts a.list a.content o) ≡ optional_bits 5 location_accept_bits (held o.present o.value)
+pub location_accept-joined : (i : ℕ) (o : OptionalLocationAccept) {a : LocationAsked} → a ≡ accept_location_asked o
+    → joined (accept_location_parts i a.list a.content o) ≡ optional_bits i location_accept_bits (held o.present o.value)
 unfolding location_accept_bits
-location_accept-joined o e =
+location_accept-joined i o e =
     located_joined downlinks downlink_parts group_identity_downlink_identifier downlink_parts_lem (λ d. d.group_identity_downlink) (λ d. d.group_identity_accept_reject) (λ d. 0)
-    5 o.present o.value (ap (λ (x : LocationAsked). x.list) e) (ap (λ (x : LocationAsked). x.content) e)
+    i o.present o.value (ap (λ (x : LocationAsked). x.list) e) (ap (λ (x : LocationAsked). x.content) e)

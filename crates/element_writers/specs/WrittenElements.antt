@@ -17,9 +17,10 @@ use Rattle.elements.specs.TableWritten.{element_bits, table_bits}
 use Rattle.elements.specs.Numbers.{held, option_bits, option_all, flag_width, announced}
 use Rattle.elements.proofs.NumbersLaws.{both}
 use Rattle.elements.specs.Generics.{entries_width, type3_bits, type3_fits}
-use Rattle.elements.specs.Kinds.{type3_held}
+use Rattle.elements.specs.Kinds.{held_in}
+use Rattle.elements.specs.declared.typed_pdu_fields.Kind.TheVariants as K
 use Rattle.elements.specs.Lists.{Groups, downlinks, each, list_bits, list_held}
-use Rattle.elements.specs.Locations.{nested_bits, group_identity_downlink_identifier}
+use Rattle.elements.specs.Locations.{nested_bits}
 use Rattle.element_writers.specs.GroupParts.{each-joined, downlink_parts, downlink_parts_lem}
 use Rattle.elements.specs.declared.typed_pdu_fields.Type3FieldGeneric.{Type3FieldGeneric}
 use Rattle.elements.specs.declared.typed_pdu_fields.OptionalType3.{OptionalType3}
@@ -57,7 +58,7 @@ optional_bits i bits o = option_bits (λ a. element_bits i (bits a)) o
 abbrev pub type3_parts : ℕ → OptionalType3 → List Bits
 type3_parts i o = cond o.present (header_bits i o.value.len ∷ digits o.value.len o.value.«data» ∷ []) []
 
-pub type3-few : (o : OptionalType3) → o.present ≡ true → option_all type3_fits (type3_held o) ≡ true → o.value.len ≤ 64
+pub type3-few : (o : OptionalType3) → o.present ≡ true → option_all type3_fits (held_in K.Type3 o) ≡ true → o.value.len ≤ 64
 unfolding type3_fits
 type3-few o p f = leb-true o.value.len 64 (both (leb o.value.len 64) _ (rw p at f)).0
 
@@ -69,7 +70,7 @@ type3-length g = length_digits g.len g.«data»
 unfoldable pub type3_size : OptionalType3 → ℕ
 type3_size o = cond o.present (cond (leb o.value.len 64) (16 + o.value.len) 0) 0
 
-pub type3_size_lem : (i : ℕ) (o : OptionalType3) → option_all type3_fits (type3_held o) ≡ true → type3_size o ≡ length (optional_bits i type3_bits (type3_held o))
+pub type3_size_lem : (i : ℕ) (o : OptionalType3) → option_all type3_fits (held_in K.Type3 o) ≡ true → type3_size o ≡ length (optional_bits i type3_bits (held_in K.Type3 o))
 unfolding type3_size
 type3_size_lem i o f = go o.present refl
   where
@@ -77,7 +78,7 @@ type3_size_lem i o f = go o.present refl
     go true p = rw (le-leb _ _ (type3-few o p f)) (sym (element-length i (type3_bits o.value) ∙ ap (λ (n : ℕ). 16 + n) (type3-length o.value)))
     go false p = refl
 
-pub type3-joined : (i : ℕ) (o : OptionalType3) → joined (type3_parts i o) ≡ optional_bits i type3_bits (type3_held o)
+pub type3-joined : (i : ℕ) (o : OptionalType3) → joined (type3_parts i o) ≡ optional_bits i type3_bits (held_in K.Type3 o)
 unfolding joined type3_bits
 type3-joined i o = go o.present
   where
@@ -214,16 +215,16 @@ module _ {G L : Type 0} (k : Groups G L) (parts : G → List Bits) (i : ℕ) whe
           ∙ ap (λ (m : ℕ). header_bits j m ++ structure_bits) whole
           ∙ header-content j structure_bits
 
--- A LIST AS AN OUTER ELEMENT, which may be absent; its content has n bits
-abbrev pub outer_list_parts : ℕ → OptionalDownlinks → List Bits
-outer_list_parts n l = cond l.present (list_parts downlinks downlink_parts group_identity_downlink_identifier n l) []
+-- A LIST AS AN OUTER ELEMENT, with identifier i, which may be absent; its content has n bits
+abbrev pub outer_list_parts : ℕ → ℕ → OptionalDownlinks → List Bits
+outer_list_parts i n l = cond l.present (list_parts downlinks downlink_parts i n l) []
 
-pub outer_list-joined : (l : OptionalDownlinks) {n : ℕ} → n ≡ length (option_bits (list_bits downlinks) (list_held downlinks l))
-    → joined (outer_list_parts n l) ≡ optional_bits group_identity_downlink_identifier (list_bits downlinks) (list_held downlinks l)
+pub outer_list-joined : (i : ℕ) (l : OptionalDownlinks) {n : ℕ} → n ≡ length (option_bits (list_bits downlinks) (list_held downlinks l))
+    → joined (outer_list_parts i n l) ≡ optional_bits i (list_bits downlinks) (list_held downlinks l)
 unfolding joined
-outer_list-joined l {n} e = go l.present refl
+outer_list-joined i l {n} e = go l.present refl
   where
     go : (p : Bool) → l.present ≡ p
-        → joined (cond p (list_parts downlinks downlink_parts group_identity_downlink_identifier n l) []) ≡ optional_bits group_identity_downlink_identifier (list_bits downlinks) (held p l)
-    go true p = list-joined_as downlinks downlink_parts group_identity_downlink_identifier downlink_parts_lem l p e
+        → joined (cond p (list_parts downlinks downlink_parts i n l) []) ≡ optional_bits i (list_bits downlinks) (held p l)
+    go true p = list-joined_as downlinks downlink_parts i downlink_parts_lem l p e
     go false p = refl

@@ -4,7 +4,8 @@ ghost use Rattle.bits.specs.Bits.{digits};
 ghost use Rattle.bits.specs.Written.{Joined, Holds};
 ghost use Rattle.elements.specs.Numbers.{in_u8, in_u64, option_bits, option_all, in_width, type2_bits};
 ghost use Rattle.elements.specs.Generics.{type3_fits, type4_fits};
-ghost use Rattle.elements.specs.Kinds.{type3_held, type4_held};
+ghost use Rattle.elements.specs.Kinds.{held_in};
+ghost use Rattle.elements.specs.declared.typed_pdu_fields.Kind.TheVariants as K;
 ghost use Rattle.element_writers.specs.WrittenElements.{header_bits, type3_size};
 
 use bits::bitbuffer::{Digits, NO_DIGITS, within};
@@ -93,7 +94,7 @@ pub fn element_header(identifier: u8, size: usize) -> Digits
 // Question 8 of a generic element that may be absent: at most 64 bits, data within them, at most 63 entries.
 #[tactic(auto, unfolding(elements::specs::Generics::type3_fits))]
 pub fn type3_fits(o: OptionalType3) -> bool
-    ensures { result ≡ option_all type3_fits (type3_held o) }
+    ensures { result ≡ option_all type3_fits (held_in K.Type3 o) }
 {
     let g = o.value;
     if o.present {
@@ -104,7 +105,7 @@ pub fn type3_fits(o: OptionalType3) -> bool
 
 #[tactic(auto, unfolding(elements::specs::Generics::type4_fits))]
 pub fn type4_fits(o: OptionalType4) -> bool
-    ensures { result ≡ option_all type4_fits (type4_held o) }
+    ensures { result ≡ option_all type4_fits (held_in K.Type4 o) }
 {
     let g = o.value;
     if o.present {

@@ -1,9 +1,9 @@
--- The numbers of reading: below a call, a reader refuses with 2 to 7 alone.
-use Rattle.std.specs.Prelude.{ℕ, zero, suc, ◌+◌, ◌-◌, ◌≤◌, ◌≡◌, refl, Bool, true, false, cond, length, take, drop, leb, eqb}
-use Rattle.std.proofs.Common.{arith}
+-- A message's reader refuses with the members of its list alone: it does so by the parts that it is made of.
+use Rattle.std.specs.Prelude.{ℕ, zero, suc, ◌+◌, ◌-◌, ◌≡◌, refl, Bool, true, false, cond, length, take, drop, leb, eqb}
+use Rattle.std.proofs.Math.Logic.{inl, inr}
 use Rattle.std.specs.Prelude.{Option, None, Some}
 use mathlib.Core.List.{List, [], ◌∷◌}
-use Rattle.bits.specs.PduParseError.{number_of, buffer_ended, invalid_value, type4_underflow, inconsistent_length, invalid_trailing_mbit_value}
+use Rattle.bits.specs.PduParseError.{buffer_ended, invalid_value, type4_underflow, inconsistent_length, invalid_trailing_mbit_value}
 use Rattle.bits.specs.Bits.{Bits, number}
 use Rattle.bits.specs.Reader.{Answer, got, refused, Reader, then, ◌>>=◌, field, pass, unless, optional, exactly, times}
 use Rattle.bits.specs.ReaderLaws.{got-refused, refused-same, optional-made, times-made}
@@ -16,38 +16,40 @@ use Rattle.elements.specs.EnergySaving.{energy_saving}
 use Rattle.elements.specs.Generics.{kept, kept_entries, type3, type4, entries, entries_width}
 use Rattle.elements.specs.Lists.{Groups, list, list_of, uplinks, downlinks}
 use Rattle.elements.specs.Locations.{group_identity_uplink_identifier, group_identity_downlink_identifier, nested, nested_if, is_unset, demand_reserved, demand_body, location_demand, accept_reserved, accept_body, location_accept}
-use Rattle.elements.specs.Kinds.{Kind, generic_type3, generic_type4, of_location_demand, of_location_accept, of_downlinks, content_of, Slot, content}
+use Rattle.elements.specs.Kinds.{kind_content, content}
+use Rattle.elements.specs.Refusals.{message_refusals, OneOf}
+use Rattle.elements.specs.declared.typed_pdu_fields.Kind.{Kind}
+use Rattle.elements.specs.declared.typed_pdu_fields.Kind.TheVariants as K
+use Rattle.elements.specs.declared.typed_pdu_fields.Row.{Row}
 use Rattle.bits.specs.declared.pdu_parse_error.PduParseErr.{PduParseErr}
 
--- one of the numbers 2 to 7
-pub record ReadingNumber (e : PduParseErr) : Type 0 where
-  pub low : 2 ≤ number_of e
-  pub high : number_of e ≤ 7
+abbrev pub ReadingRefusal : PduParseErr → Type 0
+ReadingRefusal e = OneOf e message_refusals
 
 pub record Numbered {A : Type 0} (r : Reader A) : Type 0 where
-  pub at : (bs : Bits) (n : PduParseErr) → r bs ≡ refused n → ReadingNumber n
+  pub at : (bs : Bits) (n : PduParseErr) → r bs ≡ refused n → ReadingRefusal n
 
 pub got-numbered : {A : Type 0} (x : A) → Numbered (λ bs. got x bs)
 got-numbered x = record { at = λ bs n e. got-refused e }
 
-pub refused-numbered : {A : Type 0} (m : PduParseErr) → ReadingNumber m → Numbered {A = A} (λ bs. refused m)
+pub refused-numbered : {A : Type 0} (m : PduParseErr) → ReadingRefusal m → Numbered {A = A} (λ bs. refused m)
 refused-numbered m h = record { at = λ bs n e. rw (← refused-same e) h }
 
 pub bind_numbered : {A B : Type 0} (r : Reader A) (f : A → Reader B) → Numbered r → ((a : A) → Numbered (f a)) → Numbered (r >>= f)
 bind_numbered {A} r f hr hf = record { at = λ bs n e. go bs n (r bs) refl e }
   where
-    go : (bs : Bits) (n : PduParseErr) (x : Answer A) → r bs ≡ x → then x f ≡ refused n → ReadingNumber n
+    go : (bs : Bits) (n : PduParseErr) (x : Answer A) → r bs ≡ x → then x f ≡ refused n → ReadingRefusal n
     go bs n (got a rest) p e = (hf a).at rest n e
     go bs n (refused m) p e = rw (← refused-same e) (hr.at bs m p)
 
-ended : ReadingNumber buffer_ended
-ended = record { low = omega arith; high = omega arith }
+ended : ReadingRefusal buffer_ended
+ended = inl refl
 
 pub field-numbered : (w : ℕ) → Numbered (field w)
 unfolding field
 field-numbered w = record { at = λ bs n e. go bs n (leb w (length bs)) e }
   where
-    go : (bs : Bits) (n : PduParseErr) (b : Bool) → cond b (got (number (take w bs)) (drop w bs)) (refused buffer_ended) ≡ refused n → ReadingNumber n
+    go : (bs : Bits) (n : PduParseErr) (b : Bool) → cond b (got (number (take w bs)) (drop w bs)) (refused buffer_ended) ≡ refused n → ReadingRefusal n
     go bs n true e = got-refused e
     go bs n false e = rw (← refused-same e) ended
 
@@ -55,7 +57,7 @@ pub pass-numbered : (w : ℕ) → Numbered (pass w)
 unfolding pass
 pass-numbered w = bind_numbered (field w) _ (field-numbered w) (λ v. got-numbered tt)
 
-pub unless-numbered : (b : Bool) (m : PduParseErr) → ReadingNumber m → Numbered (unless b m)
+pub unless-numbered : (b : Bool) (m : PduParseErr) → ReadingRefusal m → Numbered (unless b m)
 unless-numbered true m h = got-numbered tt
 unless-numbered false m h = refused-numbered m h
 
@@ -68,15 +70,15 @@ times-numbered = times-made (λ A. Numbered) (λ A. got-numbered) (λ A B. bind_
 pub exactly-numbered : {A : Type 0} (n : ℕ) (r : Reader A) → Numbered r → Numbered (exactly n r)
 exactly-numbered {A} n r h = record { at = λ bs m e. go bs m (r bs) refl e }
   where
-    six : ReadingNumber inconsistent_length
-    six = record { low = omega arith; high = omega arith }
+    six : ReadingRefusal inconsistent_length
+    six = inr (inr (inr (inr (inl refl))))
 
-    test : (b : Bool) (a : A) (rest : Bits) (m : PduParseErr) → then (unless b inconsistent_length rest) (λ z. got a) ≡ refused m → ReadingNumber m
+    test : (b : Bool) (a : A) (rest : Bits) (m : PduParseErr) → then (unless b inconsistent_length rest) (λ z. got a) ≡ refused m → ReadingRefusal m
     test true a rest m e = got-refused e
     test false a rest m e = rw (← refused-same e) six
 
     go : (bs : Bits) (m : PduParseErr) (x : Answer A) → r bs ≡ x
-        → then x (λ a rest. then (unless (eqb (length bs) (n + length rest)) inconsistent_length rest) (λ z. got a)) ≡ refused m → ReadingNumber m
+        → then x (λ a rest. then (unless (eqb (length bs) (n + length rest)) inconsistent_length rest) (λ z. got a)) ≡ refused m → ReadingRefusal m
     go bs m (got a rest) p e = test (eqb (length bs) (n + length rest)) a rest m e
     go bs m (refused k) p e = rw (← refused-same e) (h.at bs k p)
 
@@ -87,14 +89,14 @@ type2-numbered r h = bind_numbered (field flag_width) _ (field-numbered flag_wid
 
 -- ## elements
 
-four : ReadingNumber invalid_value
-four = record { low = omega arith; high = omega arith }
+four : ReadingRefusal invalid_value
+four = inr (inr (inl refl))
 
-five : ReadingNumber type4_underflow
-five = record { low = omega arith; high = omega arith }
+five : ReadingRefusal type4_underflow
+five = inr (inr (inr (inl refl)))
 
-seven : ReadingNumber invalid_trailing_mbit_value
-seven = record { low = omega arith; high = omega arith }
+seven : ReadingRefusal invalid_trailing_mbit_value
+seven = inr (inr (inr (inr (inr (inl refl)))))
 
 address-numbered : (f : Form) → Numbered (address_of f)
 unfolding address_of
@@ -173,7 +175,7 @@ unfolding many_of
 many-numbered {A} r h zero = refused-numbered buffer_ended ended
 many-numbered {A} r h (suc m) = record { at = λ bs n e. go (many-numbered r h m) bs n (r bs) refl e }
   where
-    go : Numbered (many_of m r) → (bs : Bits) (n : PduParseErr) (x : Answer (Option A)) → r bs ≡ x → onward x (many_of m r) ≡ refused n → ReadingNumber n
+    go : Numbered (many_of m r) → (bs : Bits) (n : PduParseErr) (x : Answer (Option A)) → r bs ≡ x → onward x (many_of m r) ≡ refused n → ReadingRefusal n
     go more bs n (got None rest) p e = got-refused e
     go more bs n (got (Some a) rest) p e = (bind_numbered (many_of m r) (λ xs. got (a ∷ xs)) more (λ xs. got-numbered (a ∷ xs))).at rest n e
     go more bs n (refused k) p e = rw (← refused-same e) (h.at bs k p)
@@ -231,13 +233,13 @@ location_accept-numbered n =
     (bind_numbered (field flag_width) _ (field-numbered flag_width) (λ a. bind_numbered accept_reserved _ (pass-numbered flag_width)
     (λ z. bind_numbered (nested downlinks group_identity_downlink_identifier) _ (nested-numbered downlinks group_identity_downlink_identifier downlink-numbered) (λ l. got-numbered _))))
 
-pub content-numbered : (s : Slot) (n : ℕ) → Numbered (content s n)
-unfolding content_of
-content-numbered s n = go s.kind
-  where
-    go : (k : Kind) → Numbered (content_of k n)
-    go generic_type3 = bind_numbered (type3 n) _ (type3-numbered n) (λ g. got-numbered _)
-    go generic_type4 = bind_numbered (type4 n) _ (type4-numbered n) (λ g. got-numbered _)
-    go of_location_demand = bind_numbered (location_demand n) _ (location_demand-numbered n) (λ d. got-numbered _)
-    go of_location_accept = bind_numbered (location_accept n) _ (location_accept-numbered n) (λ d. got-numbered _)
-    go of_downlinks = bind_numbered (list downlinks n) _ (list-numbered downlinks downlink-numbered n) (λ l. got-numbered _)
+kind-numbered : (k : Kind) (n : ℕ) → Numbered (kind_content k n)
+kind-numbered K.Type3 = type3-numbered
+kind-numbered K.Type4 = type4-numbered
+kind-numbered K.LocationDemand = location_demand-numbered
+kind-numbered K.LocationAccept = location_accept-numbered
+kind-numbered K.Downlinks = list-numbered downlinks downlink-numbered
+
+pub content-numbered : (r : Row) (n : ℕ) → Numbered (content r n)
+unfolding content
+content-numbered r n = bind_numbered (kind_content r.kind n) _ (kind-numbered r.kind n) (λ v. got-numbered _)

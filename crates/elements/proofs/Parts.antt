@@ -16,7 +16,7 @@ use Rattle.bits.specs.PlacedTimes.{alike}
 use Rattle.bits.specs.declared.bitbuffer.Cursor.{Cursor}
 use Rattle.elements.specs.Table.{Counted, counted, closing, is_listed, slot, scan}
 use Rattle.elements.proofs.TableLaws.{closing-local}
-use Rattle.elements.specs.Kinds.{Slot, Element, identifier_of, content}
+use Rattle.elements.specs.Kinds.{Element, identifier_of, content}
 use Rattle.elements.specs.Rows.{generic_row, generic_in, generic_slot, generics, skipping, table_end, no_generics, slots_in, behind_part, part}
 use Rattle.elements.proofs.PlacedOptional.{made_of, made-not, ends}
 use Rattle.elements.proofs.PlacedTable.{skip_fewer, skipping_tail, held_tail, generic_slot_tail, filled}
@@ -35,7 +35,7 @@ pub data Each : List Row → List (Option Element) → List Generic → Type 0 w
 pub record Parts (A X : Type 0) : Type 0 where
   -- the generic slots before the slot that is not generic, that slot, and those behind it
   pub before : List Row
-  pub own : Slot
+  pub own : Row
   pub behind : List Row
   -- where the array holds the values of those behind it
   pub from : ℕ
@@ -47,19 +47,19 @@ pub record Parts (A X : Type 0) : Type 0 where
   pub same : (vs ws : List (Option Element)) (v : Option Element) (gs hs : List Generic) → Each before vs gs → Each behind ws hs
       → made (vs ++ (v ∷ ws)) ≡ held (out v) (sets no_generics 0 gs) (sets no_generics from hs)
 
-module _ (table : List Slot) (b : Bool) where
-  abbrev scanned : List Slot → Reader (Counted (List (Option Element)))
+module _ (table : List Row) (b : Bool) where
+  abbrev scanned : List Row → Reader (Counted (List (Option Element)))
   scanned = scan identifier_of content (is_listed identifier_of table) b
 
   -- generic slots at the front of a table: what follows them needs their values only as the code holds them
-  abbrev Front : Type 0 → List Row → List Slot → Type 0
+  abbrev Front : Type 0 → List Row → List Row → Type 0
   Front X rs ts =
       (fin : Counted (List (Option Element)) → Reader X) (more : Counted (List Generic) → Reader X)
       → ((x : Counted (List Generic)) (vs : List (Option Element)) (m : Bits) → Each rs vs x.value
       → then (scanned ts m) (λ y. fin (counted (x.skipped + y.skipped) (vs ++ y.value))) ≡ more x m)
       → (bs : Bits) → then (scanned (map generic_row rs ++ ts) bs) fin ≡ then (generics table rs b bs) more
 
-  front : {X : Type 0} (rs : List Row) (ts : List Slot) → Front X rs ts
+  front : {X : Type 0} (rs : List Row) (ts : List Row) → Front X rs ts
   unfolding scan generics generic_slot
   front [] ts fin more h bs =
       then_same (scanned ts bs) (λ y rest. let z : 0 + y.skipped ≡ y.skipped = omega arith in rw z) ∙ h (counted 0 []) [] bs no_more

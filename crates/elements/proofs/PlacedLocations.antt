@@ -19,7 +19,8 @@ use Rattle.elements.specs.Lists.{Groups, list, list_of, downlinks}
 use Rattle.elements.proofs.ListsLaws.{Sound, list-local}
 use Rattle.elements.specs.Locations.{nested_if, nested}
 use Rattle.elements.proofs.LocationsLaws.{nested-local}
-use Rattle.elements.specs.Kinds.{of_downlinks, row, is_downlinks, held_element, content_of, identifier_of, content}
+use Rattle.elements.specs.Kinds.{row, of_kind, identifier_of, content, stored_in}
+use Rattle.elements.specs.declared.typed_pdu_fields.Kind.TheVariants as K
 use Rattle.elements.specs.Rows.{closing_if}
 use Rattle.elements.specs.Fronts.{slot_front}
 use Rattle.elements.specs.GroupAnswers.{nested_slot, nested_slot_if, downlinks_slot, Structures, structure_slot}
@@ -99,20 +100,20 @@ module _ {G L D : Type 0} {k : Groups G L} (s : Sound k) (i : ℕ) (of : L → D
 -- ## a list's slot is the same in a message's table and inside a structure
 
 pub downlinks_slot_lem : (i : ℕ) → downlinks_slot i ≡ nested_slot downlinks i
-unfolding downlinks_slot nested_slot content_of
+unfolding downlinks_slot nested_slot content
 downlinks_slot_lem i = λ j bs.
-    two_slots identifier_of content (row i of_downlinks) (λ i. i) (λ i. list downlinks) i refl
-    (λ r q. then (r bs) (λ o. got (held_element o).downlinks) ≡ then (q bs) (λ o. got (value_or (list_of downlinks None) o)))
+    two_slots identifier_of content (row i K.Downlinks) (λ i. i) (λ i. list downlinks) i refl
+    (λ r q. then (r bs) (λ o. got (stored_in K.Downlinks o)) ≡ then (q bs) (λ o. got (value_or (list_of downlinks None) o)))
     refl refl (look bs) (λ l. with_header (header bs)) j
   where
     there : (y : Answer OptionalDownlinks)
-        → then (then (then y (λ l. got (is_downlinks l))) (λ e. got (Some e))) (λ o. got (held_element o).downlinks)
+        → then (then (then y (λ l. got (of_kind K.Downlinks l))) (λ e. got (Some e))) (λ o. got (stored_in K.Downlinks o))
         ≡ then (then y (λ l. got (Some l))) (λ o. got (value_or (list_of downlinks None) o))
     there (got l rest) = refl
     there (refused n) = refl
 
     with_header : (y : Answer Header)
-        → then (then (then y (λ h. list downlinks h.size >>= λ l. got (is_downlinks l))) (λ e. got (Some e))) (λ o. got (held_element o).downlinks)
+        → then (then (then y (λ h. list downlinks h.size >>= λ l. got (of_kind K.Downlinks l))) (λ e. got (Some e))) (λ o. got (stored_in K.Downlinks o))
         ≡ then (then (then y (λ h. list downlinks h.size)) (λ l. got (Some l))) (λ o. got (value_or (list_of downlinks None) o))
     with_header (got h rest) = there (list downlinks h.size rest)
     with_header (refused n) = refl
@@ -124,7 +125,7 @@ mapped : {A B : Type 0} → (A → B) → Placed A → Placed B
 mapped f (placed a k) = placed (f a) k
 mapped f (halted n) = halted n
 
-read-made : {A B : Type 0} (f : A → B) {r : Reader A} {os : List ℕ} {c : Cursor} {a : A} {k : Cursor} → Gives r os c (placed a k) → Gives (r >>= λ a. got (f a)) os c (placed (f a) k)
+pub read-made : {A B : Type 0} (f : A → B) {r : Reader A} {os : List ℕ} {c : Cursor} {a : A} {k : Cursor} → Gives r os c (placed a k) → Gives (r >>= λ a. got (f a)) os c (placed (f a) k)
 unfolding at mapped
 read-made f {r} {os} {c} e = record { eq = go (r (window os c)) ∙ ap (mapped f) e.eq }
   where
@@ -133,14 +134,14 @@ read-made f {r} {os} {c} e = record { eq = go (r (window os c)) ∙ ap (mapped f
     go (refused n) = refl
 
 module _ {D O : Type 0} (k : Structures D O) (s : Shaped k) (i : ℕ) {os : List ℕ} {c : Cursor} {n : ℕ} {c₁ : Cursor} (e : Gives (slot_front i) os c (placed (Some n) c₁)) where
-  row-there : {x : Placed O} → Gives (k.content n >>= λ d. got (k.out (k.is d))) os c₁ x → Gives (structure_slot k i) os c x
+  row-there : {x : Placed O} → Gives (k.content n >>= λ d. got (k.out (Some (k.is d)))) os c₁ x → Gives (structure_slot k i) os c x
   unfolding structure_slot
   row-there g =
       front-there identifier_of content (row i k.kind) _ e
-      (alike (k.content n >>= λ d. got (k.out (k.is d))) (rw s.content (then-then (k.content n (window os c₁)) _ _)) g)
+      (alike (k.content n >>= λ d. got (k.out (Some (k.is d)))) (rw (s.content i) (then-then (k.content n (window os c₁)) _ _)) g)
 
   pub row-refused : {m : PduParseErr} → Gives (k.content n) os c₁ (halted m) → Gives (structure_slot k i) os c (halted m)
   row-refused g = row-there (stop _ g)
 
   pub row_read : {d : D} {c₂ : Cursor} → Gives (k.content n) os c₁ (placed d c₂) → Gives (structure_slot k i) os c (placed (k.make true d) c₂)
-  row_read {d} g = known (row-there (read-made (λ d. k.out (k.is d)) g)) (s.held d)
+  row_read {d} g = known (row-there (read-made (λ d. k.out (Some (k.is d))) g)) (s.held d)

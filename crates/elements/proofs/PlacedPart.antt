@@ -16,7 +16,8 @@ use Rattle.bits.specs.PlacedTimes.{set-behind, alike}
 use Rattle.bits.specs.declared.bitbuffer.Cursor.{Cursor}
 use Rattle.elements.specs.Table.{Look, outside, ends, opens, look, closing, counted, is_listed}
 use Rattle.elements.proofs.TableLaws.{at_end, skip-halts, pieces_unfold}
-use Rattle.elements.specs.Kinds.{Slot, absent_type3, absent_type4, identifier_of, content}
+use Rattle.elements.specs.Kinds.{identifier_of, content, stored}
+use Rattle.elements.specs.declared.typed_pdu_fields.Kind.TheVariants as K
 use Rattle.elements.specs.Rows.{from_type3, from_type4, skipping, is_type4, generic_row, generic_in, generic_content, generic_slot, generics, part, follows_at, element_follows, no_generic, no_generics, opened_by}
 use Rattle.elements.specs.Answers.{opening}
 use Rattle.elements.proofs.PlacedTable.{follows_tail, same-as, other-than, slot-outside, slot-absent, slot-there, generic_slot_tail, resumed, resumed_broken, resumed-on, resumed_skipped, skipped_again}
@@ -42,7 +43,7 @@ module _ {os : List ℕ} {c k : Cursor} {o : Option ℕ} (e : Gives opening os c
   absent : Gives (got (generic_in r None)) os c (placed no_generic c)
   absent = go (is_type4 r.kind)
     where
-      go : (b : Bool) → Gives (got (cond b (from_type4 absent_type4) (from_type3 absent_type3))) os c (placed no_generic c)
+      go : (b : Bool) → Gives (got (cond b (from_type4 (stored K.Type4 None)) (from_type3 (stored K.Type3 None)))) os c (placed no_generic c)
       go true = done
       go false = done
 
@@ -56,7 +57,7 @@ module _ {os : List ℕ} {c k : Cursor} {o : Option ℕ} (e : Gives opening os c
   unfolding generic_slot generic_content
   slot-opened t g = slot-there identifier_of content (generic_row r) _ e (same-as _ (sym t)) g
 
-module _ (table : List Slot) (b : Bool) {os : List ℕ} {c k : Cursor} {o : Option ℕ} (e : Gives opening os c (placed o k))
+module _ (table : List Row) (b : Bool) {os : List ℕ} {c k : Cursor} {o : Option ℕ} (e : Gives opening os c (placed o k))
     (again : Gives (skipping table b) os c (placed 0 c)) where
   -- the slots before the one that the element opens
   slots-passed : (rs : List Row) (gs : List Generic) (i n : ℕ) → drop i gs ≡ drop i no_generics
@@ -91,7 +92,7 @@ slot_unseen e r = slot-outside identifier_of content (generic_row r) _ e
 
 -- ## an element of a part
 
-module _ (table : List Slot) (b : Bool) where
+module _ (table : List Row) (b : Bool) where
   -- THE LOOK AT AN ELEMENT, behind the m unlisted ones that stand from c on: at slot i, p slots before its own; nothing stands in the array from there on
   pub record Looked (os : List ℕ) (c j k : Cursor) (m : ℕ) (o : Option ℕ) (slots : List Row) (gs : List Generic) (from i p : ℕ) : Type 0 where
     pub skipped : Gives (skipping table b) os c (placed m j)
@@ -164,7 +165,7 @@ absent_in r = go (is_type4 r.kind)
     go true = refl
     go false = refl
 
-module _ (table : List Slot) (b : Bool) where
+module _ (table : List Row) (b : Bool) where
   module _ (bs : Bits) (l : look bs ≡ ends) where
     none-skipped : skipping table b bs ≡ got 0 bs
     none-skipped = skip-halts (is_listed identifier_of table) b bs (at_end l)

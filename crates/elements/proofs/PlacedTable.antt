@@ -20,7 +20,7 @@ use Rattle.elements.specs.Table.{identifier_width, length_width, Look, outside, 
 use Rattle.elements.specs.Table.{used_of, whole, Piece, piece, onward, pieces, counted, is_listed, slot, slot_at, skip}
 use Rattle.elements.proofs.NumbersLaws.{never}
 use Rattle.elements.proofs.TableLaws.{look_tail, closing-local, two_slots, Halts, at_end, at-stop, pieces_unfold, pieces-halts, pieces-got, stands_shrinks, slot_tail, skip_tail, skip-again}
-use Rattle.elements.specs.Kinds.{Slot, Element, identifier_of, content}
+use Rattle.elements.specs.Kinds.{Element, identifier_of, content}
 use Rattle.elements.proofs.KindsLaws.{content-local}
 use Rattle.elements.specs.Rows.{follows_at, element_follows, sized, skipping, generic_row, generic_in, generic_slot, generics, slots_in}
 use Rattle.elements.specs.Answers.{opening}
@@ -325,14 +325,14 @@ module _ (listed : ℕ → Bool) where
 -- ## generic slots, one at a turn
 
 -- a slot, whose value the code holds as `out` makes it
-pub held_tail : {A : Type 0} (s : Slot) (out : Option Element → A) → Tail (slot identifier_of content s >>= λ o. got (out o))
+pub held_tail : {A : Type 0} (s : Row) (out : Option Element → A) → Tail (slot identifier_of content s >>= λ o. got (out o))
 held_tail s out = bind_tail (slot identifier_of content s) _ (slot_tail identifier_of content content-local s) (λ o. search local·rules)
 
 pub generic_slot_tail : (r : Row) → Tail (generic_slot r)
 unfolding generic_slot
 generic_slot_tail r = held_tail (generic_row r) (generic_in r)
 
-module _ (table : List Slot) (b : Bool) where
+module _ (table : List Row) (b : Bool) where
   -- slots, with their values put into the array from i on
   abbrev pub filled : List Generic → ℕ → List Row → Reader Slots
   filled gs i rs = generics table rs b >>= λ x. got (slots_in gs i x)

@@ -1,13 +1,15 @@
 -- What the code's answers say of lists and structures.
 use Rattle.std.specs.Prelude.{ℕ, Bool, true, false}
-use Rattle.std.specs.Prelude.{None}
+use Rattle.std.specs.Prelude.{Option, None}
 use Rattle.bits.specs.Reader.{Reader, got, ◌>>=◌}
 use Rattle.bits.specs.Placed.{Placed}
 use Rattle.elements.specs.Numbers.{value_or}
 use Rattle.elements.specs.Table.{slot}
 use Rattle.elements.specs.Lists.{Groups, list, list_of}
 use Rattle.elements.specs.Locations.{location_demand, no_location_demand, location_accept, no_location_accept}
-use Rattle.elements.specs.Kinds.{Kind, Element, row, of_location_demand, of_location_accept, of_downlinks, is_location_demand, is_location_accept, held_element, identifier_of, content}
+use Rattle.elements.specs.Kinds.{Element, of_kind, row, identifier_of, content, stored_in}
+use Rattle.elements.specs.declared.typed_pdu_fields.Kind.{Kind}
+use Rattle.elements.specs.declared.typed_pdu_fields.Kind.TheVariants as K
 use Rattle.elements.specs.Answers.{judged}
 use Rattle.elements.specs.declared.typed_pdu_fields.Judged.{Judged}
 use Rattle.elements.specs.declared.group_identity_downlink.OptionalDownlinks.{OptionalDownlinks}
@@ -38,27 +40,28 @@ pub record Structures (D O : Type 0) : Type 1 where
   -- its n bits
   pub content : ℕ → Reader D
   pub is : D → Element
-  pub out : Element → O
+  -- a slot as the record holds it
+  pub out : Option Element → O
   -- what stands where there is none
   pub none : D
   pub make : Bool → D → O
 
 abbrev pub location_demands : Structures GroupIdentityLocationDemand OptionalLocationDemand
 location_demands = record {
-  kind = of_location_demand;
+  kind = K.LocationDemand;
   content = location_demand;
-  is = is_location_demand;
-  out = λ e. e.location_demand;
+  is = of_kind K.LocationDemand;
+  out = stored_in K.LocationDemand;
   none = no_location_demand;
   make = λ p d. record { present = p; value = d };
 }
 
 abbrev pub location_accepts : Structures GroupIdentityLocationAccept OptionalLocationAccept
 location_accepts = record {
-  kind = of_location_accept;
+  kind = K.LocationAccept;
   content = location_accept;
-  is = is_location_accept;
-  out = λ e. e.location_accept;
+  is = of_kind K.LocationAccept;
+  out = stored_in K.LocationAccept;
   none = no_location_accept;
   make = λ p d. record { present = p; value = d };
 }
@@ -66,7 +69,7 @@ location_accepts = record {
 module _ {D O : Type 0} (k : Structures D O) where
   -- the slot of a message's table that holds it
   unfoldable pub structure_slot : ℕ → Reader O
-  structure_slot i = slot identifier_of content (row i k.kind) >>= λ o. got (k.out (held_element o))
+  structure_slot i = slot identifier_of content (row i k.kind) >>= λ o. got (k.out o)
 
   abbrev pub structure_answer : Placed D → Judged D
   structure_answer = judged k.none
@@ -82,4 +85,4 @@ location_accept_slot = structure_slot location_accepts
 
 -- the same of the outer list
 unfoldable pub downlinks_slot : ℕ → Reader OptionalDownlinks
-downlinks_slot i = slot identifier_of content (row i of_downlinks) >>= λ o. got (held_element o).downlinks
+downlinks_slot i = slot identifier_of content (row i K.Downlinks) >>= λ o. got (stored_in K.Downlinks o)

@@ -1,12 +1,17 @@
--- The kinds of outer elements, and what a slot of each kind holds.
-use Rattle.std.specs.Prelude.{ℕ, ◌≡◌, true, false, is_some, option_map}
-use Rattle.std.specs.Prelude.{Option, None}
+-- The kinds of outer elements: what an element of each kind holds, how it is read and written, and how a record stores it.
+use Rattle.std.specs.Prelude.{ℕ, ◌≡◌, Bool, true, is_some, option_map, unwrap_or}
+use Rattle.std.specs.Prelude.{Option, None, Some}
 use Rattle.bits.specs.Bits.{Bits}
 use Rattle.bits.specs.Reader.{Reader, got, ◌>>=◌}
-use Rattle.elements.specs.Numbers.{held, value_or, Same}
-use Rattle.elements.specs.Generics.{type3, type4, no_type3, no_type4, type3_bits, type4_bits}
-use Rattle.elements.specs.Lists.{list, list_of, list_bits, list_normal, downlinks}
-use Rattle.elements.specs.Locations.{location_demand, location_demand_bits, location_demand_normal, no_location_demand, location_accept, location_accept_bits, location_accept_normal, no_location_accept}
+use Rattle.elements.specs.Numbers.{held, value_or, option_bits}
+use Rattle.elements.specs.Generics.{type3, type4, no_type3, no_type4, type3_bits, type4_bits, type3_fits, type4_fits}
+use Rattle.elements.specs.Lists.{length_fits, list, list_of, list_bits, list_fits, list_one, list_listed, list_held, list_normal, uplinks, downlinks, SameList}
+use Rattle.elements.specs.Locations.{lengths_fit}
+use Rattle.elements.specs.Locations.{location_demand, location_demand_bits, location_demand_fits, location_demand_normal, no_location_demand, SameLocationDemand}
+use Rattle.elements.specs.Locations.{location_accept, location_accept_bits, location_accept_fits, location_accept_normal, no_location_accept, SameLocationAccept}
+use Rattle.elements.specs.declared.typed_pdu_fields.Kind.{Kind}
+use Rattle.elements.specs.declared.typed_pdu_fields.Kind.TheVariants as K
+use Rattle.elements.specs.declared.typed_pdu_fields.Row.{Row}
 use Rattle.elements.specs.declared.typed_pdu_fields.Type3FieldGeneric.{Type3FieldGeneric}
 use Rattle.elements.specs.declared.typed_pdu_fields.Type4FieldGeneric.{Type4FieldGeneric}
 use Rattle.elements.specs.declared.typed_pdu_fields.OptionalType3.{OptionalType3}
@@ -17,133 +22,135 @@ use Rattle.elements.specs.declared.group_identity_location_demand.OptionalLocati
 use Rattle.elements.specs.declared.group_identity_location_accept.GroupIdentityLocationAccept.{GroupIdentityLocationAccept}
 use Rattle.elements.specs.declared.group_identity_location_accept.OptionalLocationAccept.{OptionalLocationAccept}
 
-pub data Kind : Type 0 where
-  generic_type3 : Kind
-  generic_type4 : Kind
-  of_location_demand : Kind
-  of_location_accept : Kind
-  of_downlinks : Kind
-
 -- a row of a message's table: a listed identifier, and the kind of element that it opens
-pub record Slot : Type 0 where
-  pub identifier : ℕ
-  pub kind : Kind
-
-abbrev pub row : ℕ → Kind → Slot
+abbrev pub row : ℕ → Kind → Row
 row i k = record { identifier = i; kind = k }
 
--- an element's value: of the five kinds one is present
-pub record Element : Type 0 where
-  pub type3 : OptionalType3
-  pub type4 : OptionalType4
-  pub location_demand : OptionalLocationDemand
-  pub location_accept : OptionalLocationAccept
-  pub downlinks : OptionalDownlinks
+-- ## what an element of a kind holds
 
-abbrev pub absent_type3 : OptionalType3
-absent_type3 = record { present = false; value = no_type3 }
+abbrev pub Value : Kind → Type 0
+Value K.Type3 = Type3FieldGeneric
+Value K.Type4 = Type4FieldGeneric
+Value K.LocationDemand = GroupIdentityLocationDemand
+Value K.LocationAccept = GroupIdentityLocationAccept
+Value K.Downlinks = OptionalDownlinks
 
-abbrev pub absent_type4 : OptionalType4
-absent_type4 = record { present = false; value = no_type4 }
+-- how its content of n bits is read
+abbrev pub kind_content : (k : Kind) → ℕ → Reader (Value k)
+kind_content K.Type3 = type3
+kind_content K.Type4 = type4
+kind_content K.LocationDemand = location_demand
+kind_content K.LocationAccept = location_accept
+kind_content K.Downlinks = list downlinks
 
-abbrev pub absent_location_demand : OptionalLocationDemand
-absent_location_demand = record { present = false; value = no_location_demand }
+-- its content as it is written
+abbrev pub kind_bits : (k : Kind) → Value k → Bits
+kind_bits K.Type3 = type3_bits
+kind_bits K.Type4 = type4_bits
+kind_bits K.LocationDemand = location_demand_bits
+kind_bits K.LocationAccept = location_accept_bits
+kind_bits K.Downlinks = list_bits downlinks
 
-abbrev pub absent_location_accept : OptionalLocationAccept
-absent_location_accept = record { present = false; value = no_location_accept }
+-- QUESTION 8
+abbrev pub kind_fits : (k : Kind) → Value k → Bool
+kind_fits K.Type3 v = type3_fits v
+kind_fits K.Type4 v = type4_fits v
+kind_fits K.LocationDemand v = location_demand_fits v
+kind_fits K.LocationAccept v = location_accept_fits v
+kind_fits K.Downlinks v = list_fits downlinks v
 
-abbrev pub absent_downlinks : OptionalDownlinks
-absent_downlinks = list_of downlinks None
+-- QUESTION 10
+abbrev pub kind_one : (k : Kind) → Value k → Bool
+kind_one K.Type3 v = true
+kind_one K.Type4 v = true
+kind_one K.LocationDemand v = list_one uplinks v.group_identity_uplink
+kind_one K.LocationAccept v = list_one downlinks v.group_identity_downlink
+kind_one K.Downlinks v = list_one downlinks v
 
-abbrev element_of : OptionalType3 → OptionalType4 → OptionalLocationDemand → OptionalLocationAccept → OptionalDownlinks → Element
-element_of g h d a l = record { type3 = g; type4 = h; location_demand = d; location_accept = a; downlinks = l }
+-- QUESTION 11
+abbrev pub kind_listed : (k : Kind) → Value k → Bool
+kind_listed K.Type3 v = true
+kind_listed K.Type4 v = true
+kind_listed K.LocationDemand v = list_listed uplinks v.group_identity_uplink
+kind_listed K.LocationAccept v = list_listed downlinks v.group_identity_downlink
+kind_listed K.Downlinks v = list_listed downlinks v
 
-abbrev pub is_type3 : Type3FieldGeneric → Element
-is_type3 g = element_of (record { present = true; value = g }) absent_type4 absent_location_demand absent_location_accept absent_downlinks
+-- QUESTION 15
+abbrev pub kind_short : (k : Kind) → Value k → Bool
+kind_short K.Type3 v = true
+kind_short K.Type4 v = true
+kind_short K.LocationDemand v = lengths_fit uplinks (location_demand_bits v) v.group_identity_uplink
+kind_short K.LocationAccept v = lengths_fit downlinks (location_accept_bits v) v.group_identity_downlink
+kind_short K.Downlinks v = length_fits (list_bits downlinks v)
 
-abbrev pub is_type4 : Type4FieldGeneric → Element
-is_type4 g = element_of absent_type3 (record { present = true; value = g }) absent_location_demand absent_location_accept absent_downlinks
+abbrev pub kind_normal : (k : Kind) → Value k → Value k
+kind_normal K.Type3 v = v
+kind_normal K.Type4 v = v
+kind_normal K.LocationDemand v = location_demand_normal v
+kind_normal K.LocationAccept v = location_accept_normal v
+kind_normal K.Downlinks v = list_normal downlinks v
 
-abbrev pub is_location_demand : GroupIdentityLocationDemand → Element
-is_location_demand d = element_of absent_type3 absent_type4 (record { present = true; value = d }) absent_location_accept absent_downlinks
+-- what is present in both is equal
+abbrev pub SameValue : (k : Kind) → Value k → Value k → Type 0
+SameValue K.Type3 v w = v ≡ w
+SameValue K.Type4 v w = v ≡ w
+SameValue K.LocationDemand v w = SameLocationDemand v w
+SameValue K.LocationAccept v w = SameLocationAccept v w
+SameValue K.Downlinks v w = SameList downlinks v w
 
-abbrev pub is_location_accept : GroupIdentityLocationAccept → Element
-is_location_accept d = element_of absent_type3 absent_type4 absent_location_demand (record { present = true; value = d }) absent_downlinks
+-- ## elements of any kind, in a table's slots
 
-abbrev pub is_downlinks : OptionalDownlinks → Element
-is_downlinks l = element_of absent_type3 absent_type4 absent_location_demand absent_location_accept l
+pub data Element : Type 0 where
+  of_kind : (k : Kind) → Value k → Element
 
--- what an absent element holds
-abbrev pub no_element : Element
-no_element = element_of absent_type3 absent_type4 absent_location_demand absent_location_accept absent_downlinks
+-- what a slot of a kind holds: nothing of an element of another kind
+abbrev pub value_in : (k : Kind) → Option Element → Option (Value k)
+value_in K.Type3 (Some (of_kind K.Type3 v)) = Some v
+value_in K.Type4 (Some (of_kind K.Type4 v)) = Some v
+value_in K.LocationDemand (Some (of_kind K.LocationDemand v)) = Some v
+value_in K.LocationAccept (Some (of_kind K.LocationAccept v)) = Some v
+value_in K.Downlinks (Some (of_kind K.Downlinks v)) = Some v
+value_in k o = None
 
-abbrev pub held_element : Option Element → Element
-held_element o = value_or no_element o
+abbrev pub identifier_of : Row → ℕ
+identifier_of r = r.identifier
 
--- the content of n bits of an element of a kind
-unfoldable pub content_of : Kind → ℕ → Reader Element
-content_of generic_type3 n = type3 n >>= λ g. got (is_type3 g)
-content_of generic_type4 n = type4 n >>= λ g. got (is_type4 g)
-content_of of_location_demand n = location_demand n >>= λ d. got (is_location_demand d)
-content_of of_location_accept n = location_accept n >>= λ d. got (is_location_accept d)
-content_of of_downlinks n = list downlinks n >>= λ l. got (is_downlinks l)
+unfoldable pub content : Row → ℕ → Reader Element
+content r n = kind_content r.kind n >>= λ v. got (of_kind r.kind v)
 
-unfoldable pub content_bits_of : Kind → Element → Bits
-content_bits_of generic_type3 e = type3_bits e.type3.value
-content_bits_of generic_type4 e = type4_bits e.type4.value
-content_bits_of of_location_demand e = location_demand_bits e.location_demand.value
-content_bits_of of_location_accept e = location_accept_bits e.location_accept.value
-content_bits_of of_downlinks e = list_bits downlinks e.downlinks
+unfoldable pub content_bits : Row → Element → Bits
+content_bits r e = option_bits (kind_bits r.kind) (value_in r.kind (Some e))
 
-unfoldable pub normal_of : Kind → Element → Element
-normal_of generic_type3 e = is_type3 e.type3.value
-normal_of generic_type4 e = is_type4 e.type4.value
-normal_of of_location_demand e = is_location_demand (location_demand_normal e.location_demand.value)
-normal_of of_location_accept e = is_location_accept (location_accept_normal e.location_accept.value)
-normal_of of_downlinks e = is_downlinks (list_normal downlinks e.downlinks)
+unfoldable pub element_normal : Row → Element → Element
+element_normal r e = unwrap_or (option_map (λ v. of_kind r.kind (kind_normal r.kind v)) (value_in r.kind (Some e))) e
 
--- ## a table's slots
+-- ## how a record stores what may be absent: presence, and a value that is zero where there is none
 
-abbrev pub identifier_of : Slot → ℕ
-identifier_of s = s.identifier
+abbrev pub Stored : Kind → Type 0
+Stored K.Type3 = OptionalType3
+Stored K.Type4 = OptionalType4
+Stored K.LocationDemand = OptionalLocationDemand
+Stored K.LocationAccept = OptionalLocationAccept
+Stored K.Downlinks = OptionalDownlinks
 
-abbrev pub content : Slot → ℕ → Reader Element
-content s = content_of s.kind
+abbrev pub stored : (k : Kind) → Option (Value k) → Stored k
+stored K.Type3 o = record { present = is_some o; value = value_or no_type3 o }
+stored K.Type4 o = record { present = is_some o; value = value_or no_type4 o }
+stored K.LocationDemand o = record { present = is_some o; value = value_or no_location_demand o }
+stored K.LocationAccept o = record { present = is_some o; value = value_or no_location_accept o }
+stored K.Downlinks o = value_or (list_of downlinks None) o
 
-abbrev pub content_bits : Slot → Element → Bits
-content_bits s = content_bits_of s.kind
+-- and back
+abbrev pub held_in : (k : Kind) → Stored k → Option (Value k)
+held_in K.Type3 s = held s.present s.value
+held_in K.Type4 s = held s.present s.value
+held_in K.LocationDemand s = held s.present s.value
+held_in K.LocationAccept s = held s.present s.value
+held_in K.Downlinks s = list_held downlinks s
 
-abbrev pub element_normal : Slot → Element → Element
-element_normal s = normal_of s.kind
+-- a slot as a record stores it, and the other way
+abbrev pub stored_in : (k : Kind) → Option Element → Stored k
+stored_in k o = stored k (value_in k o)
 
--- ## the record's fields as slots, and back
-
-abbrev pub type3_held : OptionalType3 → Option Type3FieldGeneric
-type3_held o = held o.present o.value
-
-abbrev pub type3_slot : OptionalType3 → Option Element
-type3_slot o = option_map is_type3 (type3_held o)
-
-abbrev pub type3_option : Option Type3FieldGeneric → OptionalType3
-type3_option o = record { present = is_some o; value = value_or no_type3 o }
-
-abbrev pub SameType3 : OptionalType3 → OptionalType3 → Type 0
-SameType3 o u = Same ◌≡◌ o.present o.value u.present u.value
-
-abbrev pub type4_held : OptionalType4 → Option Type4FieldGeneric
-type4_held o = held o.present o.value
-
-abbrev pub type4_slot : OptionalType4 → Option Element
-type4_slot o = option_map is_type4 (type4_held o)
-
-abbrev pub type4_option : Option Type4FieldGeneric → OptionalType4
-type4_option o = record { present = is_some o; value = value_or no_type4 o }
-
-abbrev pub SameType4 : OptionalType4 → OptionalType4 → Type 0
-SameType4 o u = Same ◌≡◌ o.present o.value u.present u.value
-
-abbrev pub location_demand_option : Option GroupIdentityLocationDemand → OptionalLocationDemand
-location_demand_option o = record { present = is_some o; value = value_or no_location_demand o }
-
-abbrev pub location_accept_option : Option GroupIdentityLocationAccept → OptionalLocationAccept
-location_accept_option o = record { present = is_some o; value = value_or no_location_accept o }
+abbrev pub slot_of : (k : Kind) → Stored k → Option Element
+slot_of k s = option_map (of_kind k) (held_in k s)

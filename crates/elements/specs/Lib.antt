@@ -13,3 +13,4 @@ pub mod Fronts
 pub mod Answers
 pub mod GroupAnswers
 pub mod TraitLaws
+pub mod Refusals

@@ -1,5 +1,5 @@
 -- A message's table as the code holds it, and its generic slots as the code reads them.
-use Rattle.std.specs.Prelude.{ℕ, ◌+◌, ◌-◌, min, Bool, true, false, cond, nat_eq, List, [], ◌∷◌, map, take, drop, replicate}
+use Rattle.std.specs.Prelude.{ℕ, ◌+◌, ◌-◌, min, Bool, true, false, cond, nat_eq, List, [], ◌∷◌, take, drop, replicate}
 use Rattle.std.specs.Prelude.{Option, Some}
 use Rattle.std.specs.Option.{option_eq}
 use Rattle.std.proofs.lemmas.List.Edits.{sets}
@@ -7,40 +7,25 @@ use Rattle.bits.specs.PduParseError.{buffer_ended}
 use Rattle.bits.specs.Reader.{Reader, got, refused, then, ◌>>=◌, field}
 use Rattle.elements.specs.Table.{length_width, Look, outside, ends, opens, look, Counted, counted, closing, is_listed, skip, slot}
 use Rattle.elements.specs.Generics.{type3, type4}
-use Rattle.elements.specs.Kinds.{Kind, generic_type3, generic_type4, of_location_demand, of_location_accept, of_downlinks, Slot, row, Element, held_element, identifier_of, content}
+use Rattle.elements.specs.Kinds.{row, Element, identifier_of, content, stored_in}
 use Rattle.elements.specs.declared.typed_pdu_fields.OptionalType3.{OptionalType3}
 use Rattle.elements.specs.declared.typed_pdu_fields.OptionalType4.{OptionalType4}
 use Rattle.elements.specs.declared.typed_pdu_fields.Generic.{Generic}
 use Rattle.elements.specs.declared.typed_pdu_fields.Row.{Row}
-use Rattle.elements.specs.declared.typed_pdu_fields.Kind as R
+use Rattle.elements.specs.declared.typed_pdu_fields.Kind.{Kind}
 use Rattle.elements.specs.declared.typed_pdu_fields.Kind.TheVariants as K
 use Rattle.elements.specs.declared.typed_pdu_fields.Slots.{Slots}
-
--- the kind that a row names
-abbrev pub kind_of : R.Kind → Kind
-kind_of K.Type3 = generic_type3
-kind_of K.Type4 = generic_type4
-kind_of K.LocationDemand = of_location_demand
-kind_of K.LocationAccept = of_location_accept
-kind_of K.Downlinks = of_downlinks
-
-abbrev pub row_of : Row → Slot
-row_of r = row r.identifier (kind_of r.kind)
-
--- the table's rows
-abbrev pub rows_of : List Row → List Slot
-rows_of = map row_of
 
 -- the rows from one place up to another
 abbrev pub slots_from : List Row → ℕ → ℕ → List Row
 slots_from t from to = take (min to 8 - from) (drop from t)
 
 -- the unlisted elements that stand here, if they are skipped
-abbrev pub skipping : List Slot → Bool → Reader ℕ
+abbrev pub skipping : List Row → Bool → Reader ℕ
 skipping table = skip (is_listed identifier_of table)
 
 -- the end of a table
-abbrev pub table_end : List Slot → Bool → Reader ℕ
+abbrev pub table_end : List Row → Bool → Reader ℕ
 table_end table b = skipping table b >>= λ n. closing >>= λ z. got n
 
 -- the closing M-bit, where there is one
@@ -83,18 +68,18 @@ generic_type3_at n = type3 n >>= λ g. got (from_type3 (record { present = true;
 abbrev pub generic_type4_at : ℕ → Reader Generic
 generic_type4_at n = type4 n >>= λ g. got (from_type4 (record { present = true; value = g }))
 
-abbrev pub is_type4 : R.Kind → Bool
+abbrev pub is_type4 : Kind → Bool
 is_type4 K.Type3 = false
 is_type4 K.Type4 = true
 is_type4 K.LocationDemand = false
 is_type4 K.LocationAccept = false
 is_type4 K.Downlinks = false
 
-abbrev pub generic_row : Row → Slot
-generic_row r = row r.identifier (cond (is_type4 r.kind) generic_type4 generic_type3)
+abbrev pub generic_row : Row → Row
+generic_row r = row r.identifier (cond (is_type4 r.kind) K.Type4 K.Type3)
 
 abbrev pub generic_in : Row → Option Element → Generic
-generic_in r o = cond (is_type4 r.kind) (from_type4 (held_element o).type4) (from_type3 (held_element o).type3)
+generic_in r o = cond (is_type4 r.kind) (from_type4 (stored_in K.Type4 o)) (from_type3 (stored_in K.Type3 o))
 
 -- the content of a slot from its length on, as the code holds it
 unfoldable pub generic_content : Row → Reader Generic
@@ -104,7 +89,7 @@ unfoldable pub generic_slot : Row → Reader Generic
 generic_slot r = slot identifier_of content (generic_row r) >>= λ o. got (generic_in r o)
 
 -- the slots one after the other
-unfoldable pub generics : List Slot → List Row → Bool → Reader (Counted (List Generic))
+unfoldable pub generics : List Row → List Row → Bool → Reader (Counted (List Generic))
 generics table [] b = got (counted 0 [])
 generics table (r ∷ rs) b = skipping table b >>= λ n. generic_slot r >>= λ g. generics table rs b >>= λ x. got (counted (n + x.skipped) (g ∷ x.value))
 
@@ -122,12 +107,12 @@ abbrev pub slots_in : List Generic → ℕ → Counted (List Generic) → Slots
 slots_in before from x = record { skipped = x.skipped; generics = sets before from x.value }
 
 -- what is passed behind a part: unlisted elements, and at the table's end the closing M-bit
-abbrev pub behind_part : Bool → List Slot → Bool → Reader ℕ
+abbrev pub behind_part : Bool → List Row → Bool → Reader ℕ
 behind_part true table b = table_end table b
 behind_part false table b = skipping table b
 
 -- the values of a part stand in the array from its first place on, the others are absent
-unfoldable pub part : List Slot → List Row → Bool → Bool → ℕ → Reader Slots
+unfoldable pub part : List Row → List Row → Bool → Bool → ℕ → Reader Slots
 part table rs last b from =
     generics table rs b >>= λ x. behind_part last table b >>= λ n. got (slots_in no_generics from (counted (x.skipped + n) x.value))
 

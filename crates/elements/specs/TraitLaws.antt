@@ -1,11 +1,11 @@
 -- Laws that the code's traits name: what a group's reader consumes it consumes from the front, a list holds what it is made of, and a
 -- slot of a structure's kind reads the structure.
-use Rattle.std.specs.Prelude.{◌≡◌, refl, true, false}
+use Rattle.std.specs.Prelude.{ℕ, ◌≡◌, refl, true, false, None, Some}
 use Rattle.bits.specs.Reader.{Local, got, ◌>>=◌}
 use Rattle.bits.specs.ReaderLaws.{local·rules}
 use Rattle.elements.specs.Groups.{address_of, uplink_address, downlink_address, attachment_info, uplink, downlink}
 use Rattle.elements.specs.Lists.{Made, uplinks, downlinks}
-use Rattle.elements.specs.Kinds.{no_element, content_of}
+use Rattle.elements.specs.Kinds.{row, content}
 use Rattle.elements.specs.GroupAnswers.{Structures, location_demands, location_accepts}
 
 pub uplink_address-local : Local uplink_address
@@ -36,14 +36,14 @@ downlinks-made = record { presence = λ p n gs. refl; count = λ p n gs. refl; g
 
 -- what a slot of its kind reads is its content, and a record holds it or nothing
 pub record Shaped {D O : Type 0} (k : Structures D O) : Type 0 where
-  pub content : content_of k.kind ≡ (λ n. k.content n >>= λ d. got (k.is d))
-  pub held : (d : D) → k.out (k.is d) ≡ k.make true d
-  pub absent : k.out no_element ≡ k.make false k.none
+  pub content : (i : ℕ) → content (row i k.kind) ≡ (λ n. k.content n >>= λ d. got (k.is d))
+  pub held : (d : D) → k.out (Some (k.is d)) ≡ k.make true d
+  pub absent : k.out None ≡ k.make false k.none
 
 pub demands-shaped : Shaped location_demands
-unfolding content_of
-demands-shaped = record { content = refl; held = λ d. refl; absent = refl }
+unfolding content
+demands-shaped = record { content = λ i. refl; held = λ d. refl; absent = refl }
 
 pub accepts-shaped : Shaped location_accepts
-unfolding content_of
-accepts-shaped = record { content = refl; held = λ d. refl; absent = refl }
+unfolding content
+accepts-shaped = record { content = λ i. refl; held = λ d. refl; absent = refl }

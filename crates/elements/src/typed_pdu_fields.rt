@@ -8,7 +8,7 @@ ghost use Rattle.elements.specs.Numbers.{u8_of, in_u8, u64_of, in_u64, type2};
 ghost use Rattle.elements.specs.Generics.{kept};
 ghost use Rattle.elements.specs.Table.{closing, is_listed};
 ghost use Rattle.elements.specs.Kinds.{identifier_of};
-ghost use Rattle.elements.specs.Rows.{rows_of, slots_from, skipping, table_end, closing_if, element_follows, behind_part, part};
+ghost use Rattle.elements.specs.Rows.{slots_from, skipping, table_end, closing_if, element_follows, behind_part, part};
 ghost use Rattle.elements.specs.Rows.{sized, generic_type3_at, generic_type4_at, generic_content, opened_by, type3_from, type4_from};
 ghost use Rattle.elements.specs.Answers.{opening, slots_answer};
 ghost use Rattle.elements.specs.Fronts.{slot_front, list_front};
@@ -344,7 +344,7 @@ pub struct Row {
 
 // Whether a table, or a part of it, has an identifier.
 pub fn is_listed(table: &[Row], identifier: u8) -> bool
-    ensures { result ≡ is_listed identifier_of (rows_of table.now) identifier }
+    ensures { result ≡ is_listed identifier_of table.now identifier }
 {
     table.iter().any(|row| identifier == row.identifier)
 }
@@ -356,7 +356,7 @@ pub type Skipped = Read<usize>;
 // the strict reading calls nothing.
 #[inline(never)]
 fn skip_unlisted(c: Cursor, octets: &[u8], table: &[Row]) -> Skipped
-    ensures { as_read result ≡ at (skipping (rows_of table.now) true) octets.now c }
+    ensures { as_read result ≡ at (skipping table.now true) octets.now c }
 {
     let mut place = c;
     let mut n: usize = 0;
@@ -377,7 +377,7 @@ fn skip_unlisted(c: Cursor, octets: &[u8], table: &[Row]) -> Skipped
 // The same where the reading is the skipping one; the strict one passes none.
 #[inline(always)]
 pub fn skip_if(c: Cursor, octets: &[u8], table: &[Row], wanted: bool) -> Skipped
-    ensures { as_read result ≡ at (skipping (rows_of table.now) wanted) octets.now c }
+    ensures { as_read result ≡ at (skipping table.now wanted) octets.now c }
 {
     if wanted {
         return skip_unlisted(c, octets, table);
@@ -416,7 +416,7 @@ const NO_SLOTS: Slots = Slots {
 
 // The end of a table: unlisted elements where they are skipped, and the closing M-bit.
 fn read_table_end(c: Cursor, octets: &[u8], table: &[Row], wanted: bool) -> Skipped
-    ensures { as_read result ≡ at (table_end (rows_of table.now) wanted) octets.now c }
+    ensures { as_read result ≡ at (table_end table.now wanted) octets.now c }
 {
     let (n, c1) = skip_if(c, octets, table, wanted)?;
     let c2 = read_closing_mbit(c1, octets)?;
@@ -425,7 +425,7 @@ fn read_table_end(c: Cursor, octets: &[u8], table: &[Row], wanted: bool) -> Skip
 
 // What is passed behind a part of a table: unlisted elements where they are skipped, and behind the last part the closing M-bit.
 fn read_behind(c: Cursor, octets: &[u8], table: &[Row], last: bool, wanted: bool) -> Skipped
-    ensures { as_read result ≡ at (behind_part last (rows_of table.now) wanted) octets.now c }
+    ensures { as_read result ≡ at (behind_part last table.now wanted) octets.now c }
 {
     if last {
         return read_table_end(c, octets, table, wanted);
@@ -473,7 +473,7 @@ pub fn scan_part(
     last: bool,
     wanted: bool,
 ) -> Judged<Slots>
-    ensures { result ≡ slots_answer (at (part (rows_of table.now) (slots_from table.now from to) last wanted from) octets.now c) }
+    ensures { result ≡ slots_answer (at (part table.now (slots_from table.now from to) last wanted from) octets.now c) }
 {
     let slots = part_of(table, from, to);
     let mut generics = NO_GENERICS;

@@ -1,5 +1,5 @@
 -- The flat form of a record, octet by octet (document 01, 'What must change shape').
-use Rattle.std.specs.Prelude.{ℕ, ◌*◌, min, Bool, true, cond, ◌&&◌, List, [], ◌∷◌, ◌++◌, length, take, leb, Option, is_some, Result, Ok, Err}
+use Rattle.std.specs.Prelude.{ℕ, ◌*◌, min, Bool, true, cond, ◌&&◌, List, [], ◌∷◌, ◌++◌, length, take, leb, Option, None, Some, is_some, Result, Ok, Err}
 use Rattle.std.proofs.lemmas.List.Edits.{sets}
 use Rattle.std.specs.Int.{w64, to_be_bytes}
 use Rattle.bits.specs.declared.pdu_parse_error.PduParseErr.{PduParseErr}
@@ -23,7 +23,8 @@ use Rattle.elements.specs.declared.group_identity_downlink.GroupIdentityDownlink
 use Rattle.elements.specs.declared.group_identity_downlink.OptionalDownlinks.{OptionalDownlinks}
 use Rattle.elements.specs.declared.group_identity_location_demand.OptionalLocationDemand.{OptionalLocationDemand}
 use Rattle.elements.specs.declared.group_identity_location_accept.OptionalLocationAccept.{OptionalLocationAccept}
-use Rattle.messages.specs.Calls.{Message, demand, accept, attach_detach}
+use Rattle.messages.specs.declared.Message.{Message}
+use Rattle.messages.specs.declared.Message.TheVariants as M
 use Rattle.messages.specs.declared.Record.{Record}
 use Rattle.messages.specs.declared.Reading.{Reading}
 use Rattle.messages.specs.declared.u_location_update_demand.ULocationUpdateDemand.{ULocationUpdateDemand}
@@ -168,9 +169,14 @@ flat_attach_detach skipped r =
 -- ## the call
 
 abbrev pub flat_form : Message → ℕ → Record → List ℕ
-flat_form demand skipped r = flat_demand skipped r.demand
-flat_form accept skipped r = flat_accept skipped r.accept
-flat_form attach_detach skipped r = flat_attach_detach skipped r.attach_detach
+flat_form M.Demand skipped r = flat_demand skipped r.demand
+flat_form M.Accept skipped r = flat_accept skipped r.accept
+flat_form M.AttachDetach skipped r = flat_attach_detach skipped r.attach_detach
+
+-- a number that names no message has none
+abbrev pub form_by : Option Message → ℕ → Record → List ℕ
+form_by None skipped r = []
+form_by (Some m) skipped r = flat_form m skipped r
 
 -- 64 × the bits consumed or written, or the refusal's number
 abbrev pub numbered : Result ℕ PduParseErr → ℕ
@@ -187,11 +193,11 @@ abbrev pub buffer_of : Result Unit PduParseErr → Bool → List ℕ → List �
 buffer_of (Ok z) fits form flat = cond fits (sets flat 0 form) flat
 buffer_of (Err e) fits form flat = flat
 
-module _ (m : Message) (r : Reading) (flat : List ℕ) where
+module _ (m : Option Message) (r : Reading) (flat : List ℕ) where
   abbrev form : List ℕ
-  form = flat_form m r.skipped r.«record»
+  form = form_by m r.skipped r.«record»
 
-  -- THE RESULT of reading into a buffer, and THE BUFFER afterwards
+  -- THE RESULT of reading into a buffer, by the message that was asked for, and THE BUFFER afterwards
   unfoldable pub read_result : ℕ
   read_result = result_of r.verdict r.consumed (leb (length form) (length flat))
 

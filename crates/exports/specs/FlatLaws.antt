@@ -105,7 +105,7 @@ not-zero e z = let f : number_of (error_of 0) ≡ 0 = ap number_of (rw z at (err
 
 -- NO TWO ANSWERS HAVE ONE NUMBER: 64 × the bits of one, 1 to 16 of a refusal
 module _ (n : ℕ) (e : PduParseErr) where
-  apart : 64 * n ≡ number_of e → ⊥
+  pub apart : 64 * n ≡ number_of e → ⊥
   apart h = let m = number-at_most_16 e in let z : number_of e ≡ 0 = omega arith in not-zero e z
 
 pub numbered-one : (x y : Result ℕ PduParseErr) → numbered x ≡ numbered y → x ≡ y

@@ -1,5 +1,5 @@
 -- A reading call into a flat buffer: what the buffer holds afterwards.
-use Rattle.std.specs.Prelude.{ℕ, ◌-◌, ◌*◌, ◌≤◌, min, ◌≡◌, refl, Bool, true, false, List, length, eqb, leb, Ok, Err}
+use Rattle.std.specs.Prelude.{ℕ, ◌-◌, ◌*◌, ◌≤◌, min, ◌≡◌, Bool, true, false, List, length, eqb, leb, Option, None, Some, Ok, Err}
 use Rattle.std.proofs.Common.{arith, ap}
 use Rattle.std.proofs.lemmas.List.Edits.{sets}
 use Rattle.bits.specs.PduParseError.{number_of, window_too_short, bad_call}
@@ -9,16 +9,17 @@ use Rattle.bits.specs.PlacedLaws.{length-window}
 use Rattle.bits.specs.declared.bitbuffer.Cursor.{Cursor}
 use Rattle.bits.specs.declared.pdu_parse_error.PduParseErr.{PduParseErr}
 use Rattle.elements.specs.Table.{Counted}
-use Rattle.messages.specs.Calls.{Message, message_of, good_call, window_of, read_message, reading_of, no_reading, reading, accepted, called}
-use Rattle.messages.specs.MessageAnswers.{Own, message_answer}
-use Rattle.messages.proofs.PlacedCalls.{taken, not_taken, good_call_lem, bad_call_lem, good_window_lem}
+use Rattle.messages.specs.Calls.{message_of, good_call, window_of, read_message, reading_of, no_reading, reading, accepted, called}
+use Rattle.messages.specs.MessageAnswers.{Kept, message_answer}
+use Rattle.messages.specs.declared.Message.{Message}
+use Rattle.messages.proofs.PlacedCalls.{taken, not_taken, good_call_lem, bad_call_lem, named_call, good_window_lem}
 use Rattle.messages.specs.declared.MessageRead.{MessageRead}
 use Rattle.messages.specs.declared.Record.{Record}
 use Rattle.messages.specs.declared.Reading.{Reading}
-use Rattle.exports.specs.Flat.{flat_form, read_result, read_buffer}
+use Rattle.exports.specs.Flat.{flat_form, form_by, read_result, read_buffer}
 
 -- the result of a reading, and the buffer afterwards
-abbrev Answered : Message → Reading → List ℕ → ℕ → List ℕ → Type 0
+abbrev Answered : Option Message → Reading → List ℕ → ℕ → List ℕ → Type 0
 Answered m x flat r flat' = (r ≡ read_result m x flat) × (flat' ≡ read_buffer m x flat)
 
 -- no more bits are consumed than the window has
@@ -31,29 +32,29 @@ consumed-most m b os first end = go (read_message m b (window_of os first end))
         omega arith
     go (refused n) = omega arith
 
-module _ (m : Message) (flat : List ℕ) {x : Reading} where
+module _ (m : Option Message) (flat : List ℕ) {x : Reading} where
   refused-answer : {e : PduParseErr} {first : ℕ} → no_reading e first ≡ x → Answered m x flat (number_of e) flat
   unfolding read_result read_buffer
   refused-answer e = (rw (← e), rw (← e))
 
   module _ (first n : ℕ) (k : Cursor) (own : Record) (e : accepted first n k own ≡ x) where
-    short-answer : leb (length (flat_form m n own)) (length flat) ≡ false → Answered m x flat (number_of window_too_short) flat
+    short-answer : leb (length (form_by m n own)) (length flat) ≡ false → Answered m x flat (number_of window_too_short) flat
     unfolding read_result read_buffer
     short-answer h = (rw (← e) (rw h), rw (← e) (rw h))
 
-    long-answer : leb (length (flat_form m n own)) (length flat) ≡ true → Answered m x flat (64 * (k.at - first)) (sets flat 0 (flat_form m n own))
+    long-answer : leb (length (form_by m n own)) (length flat) ≡ true → Answered m x flat (64 * (k.at - first)) (sets flat 0 (form_by m n own))
     unfolding read_result read_buffer
     long-answer h = (rw (← e) (rw h), rw (← e) (rw h))
 
 -- ## a message, by its reader's verdict
 
-module _ (m : Message) {R : Type 0} {own : Record → R} {of : R → Record} (o : Own m own of)
+module _ (m : Message) {R : Type 0} {own : Record → R} {of : R → Record} (o : Kept m own of)
     (b : Bool) (os : List ℕ) (c : Cursor) (flat : List ℕ) {y : MessageRead R} (e : y ≡ message_answer own (at (read_message m b) os c)) where
   abbrev Filled : ℕ → List ℕ → Type 0
-  Filled = Answered m (called m b os c.at c.end) flat
+  Filled = Answered (Some m) (called m b os c.at c.end) flat
 
   pub filled-refused : {k : PduParseErr} → y.verdict ≡ Err k → Filled (number_of k) flat
-  filled-refused v = refused-answer m flat (not_taken m o b os c e v)
+  filled-refused v = refused-answer (Some m) flat (not_taken m o b os c e v)
 
   -- the test of the buffer's length decides
   pub record Filling (n : ℕ) (k : Cursor) : Type 0 where
@@ -69,23 +70,28 @@ module _ (m : Message) {R : Type 0} {own : Record → R} {of : R → Record} (o 
       record {
         on = t.on;
         few = λ h. omega arith;
-        short = short-answer m flat c.at n k (of y.«record») t.answer;
-        long = long-answer m flat c.at n k (of y.«record») t.answer;
+        short = short-answer (Some m) flat c.at n k (of y.«record») t.answer;
+        long = long-answer (Some m) flat c.at n k (of y.«record») t.answer;
       }
 
 -- ## question 1, and then the message
 
-module _ (m how : ℕ) (os : List ℕ) (first end : ℕ) (flat : List ℕ) where
-  pub bad_read : good_call m how (length os) first end ≡ false → Answered (message_of m) (reading m how os first end) flat (number_of bad_call) flat
-  bad_read g = refused-answer (message_of m) flat (bad_call_lem m how os first end g)
+module _ (t how : ℕ) (os : List ℕ) (first end : ℕ) (flat : List ℕ) where
+  abbrev pub Read : ℕ → List ℕ → Type 0
+  Read = Answered (message_of t) (reading t how os first end) flat
 
-  -- a good call's window is short, and its answer is the message's
-  pub record GoodRead : Type 0 where
-    pub window : (first ≤ end) × (end ≤ 32768)
-    pub answer : (r : ℕ) (flat' : List ℕ) → Answered (message_of m) (called (message_of m) (eqb how 1) os first end) flat r flat'
-        → Answered (message_of m) (reading m how os first end) flat r flat'
+  pub bad_read : good_call how (length os) first end ≡ false → Read (number_of bad_call) flat
+  unfolding reading
+  bad_read g = refused-answer (message_of t) flat (bad_call_lem (message_of t) how os first end g)
 
-  pub good_read : good_call m how (length os) first end ≡ true → GoodRead
-  good_read g =
-      let w = good_window_lem m how os first end g in
-      record { window = (w.0, omega arith); answer = λ r flat' p. rw (← good_call_lem m how os first end (message_of m) refl g) p }
+  pub unknown_read : message_of t ≡ None → Read (number_of bad_call) flat
+  unknown_read k = refused-answer (message_of t) flat (named_call t k how os first end)
+
+  -- a good call's answer is the message's
+  pub good_read : {m : Message} → message_of t ≡ Some m → good_call how (length os) first end ≡ true
+      → (r : ℕ) (flat' : List ℕ) → Answered (Some m) (called m (eqb how 1) os first end) flat r flat' → Read r flat'
+  good_read {m} k g r flat' p = rw k (rw (← named_call t k how os first end, ← good_call_lem m how os first end g) p)
+
+-- and its window is short
+pub good_read_window : (how n first end : ℕ) → good_call how n first end ≡ true → (first ≤ end) × (end ≤ 32768)
+good_read_window how n first end g = let w = good_window_lem how n first end g in (w.0, omega arith)

@@ -1,43 +1,51 @@
 -- What a rewriting wrote reads back as the record that it read, from exactly the bits written.
-use Rattle.std.specs.Prelude.{ℕ, ◌*◌, ◌≡◌, true, List, Result, Ok, Err}
-use Rattle.std.proofs.Common.{arith, ⊎_elim}
+use Rattle.std.specs.Prelude.{ℕ, ◌*◌, ◌≡◌, true, List, Option, None, Some, Result, Ok, Err}
+use Rattle.std.proofs.Common.{arith, sym, ap, ◌∙◌}
 use Rattle.std.proofs.Math.Path.{refl}
-use Rattle.messages.specs.Calls.{reading, writing, octets_written}
+use Rattle.messages.specs.Calls.{message_of, reading_as, reading, written_as, octets_as}
 use Rattle.messages.specs.RoundTrip.{Rewritten}
-use Rattle.messages.proofs.CallNumbers.{reading-refused, writing-refused}
+use Rattle.messages.proofs.PlacedCalls.{named_call}
 use Rattle.messages.proofs.RoundTrip.{rewritten_back}
+use Rattle.messages.specs.declared.Message.{Message}
 use Rattle.messages.specs.declared.Reading.{Reading}
 use Rattle.messages.specs.declared.Writing.{Writing}
 use Rattle.bits.specs.declared.pdu_parse_error.PduParseErr.{PduParseErr}
 use Rattle.exports.specs.Flat.{result_of}
+use Rattle.exports.specs.FlatLaws.{apart}
 use Rattle.exports.specs.Rewrite.{writing_result, result_behind, octets_behind, rewrite_result, rewrite_octets}
 
-module _ (m : ℕ) (os : List ℕ) (first end : ℕ) (out : List ℕ) (outFirst outEnd : ℕ) where
+module _ (t : ℕ) (os : List ℕ) (first end : ℕ) (out : List ℕ) (out_first out_end n : ℕ) where
+  abbrev Back : Option Message → List ℕ → Type 0
+  Back o = Rewritten t out out_first out_end (reading_as o 0 os first end).«record» n
+
+  module _ (m : Message) (known : message_of t ≡ Some m) where
+    abbrev r : Reading
+    r = reading_as (Some m) 0 os first end
+
+    abbrev w : Writing
+    w = written_as m out out_first out_end r.«record»
+
+    abbrev written : List ℕ
+    written = octets_as m out out_first out_end r.«record»
+
+    by_writing : r.verdict ≡ Ok tt → (v : Result Unit PduParseErr) → w.verdict ≡ v → result_of v w.written true ≡ 64 * n → Back (Some m) written
+    by_writing read (Ok z) v e =
+        let same : w.written ≡ n = omega (arith, e) in
+        let is = named_call t known 0 os first end in
+        rw (← same) (rewritten_back m t 0 known os first end out out_first out_end (ap (λ (r : Reading). r.«record») is) refl refl (ap (λ (r : Reading). r.verdict) (sym is) ∙ read) v)
+    by_writing read (Err k) v e = absurd (apart n k (sym e))
+
+    by_reading : (v : Result Unit PduParseErr) → r.verdict ≡ v → result_behind v (writing_result w) ≡ 64 * n → Back (Some m) (octets_behind v out written)
+    by_reading (Ok z) read e = by_writing read w.verdict refl e
+    by_reading (Err k) read e = absurd (apart n k (sym e))
+
   -- A REWRITING THAT WROTE n BITS
-  pub rewriting_back : {n : ℕ} → rewrite_result m os first end out outFirst outEnd ≡ 64 * n
-      → Rewritten m out outFirst outEnd (reading m 0 os first end).«record» n (rewrite_octets m os first end out outFirst outEnd)
-  unfolding rewrite_result rewrite_octets
-  rewriting_back {n} e = go r.verdict refl e
+  pub rewriting_back : rewrite_result (message_of t) os first end out out_first out_end ≡ 64 * n
+      → Rewritten t out out_first out_end (reading t 0 os first end).«record» n (rewrite_octets (message_of t) os first end out out_first out_end)
+  unfolding rewrite_result rewrite_octets reading
+  rewriting_back e = go (message_of t) refl e
     where
-      r : Reading
-      r = reading m 0 os first end
-
-      w : Writing
-      w = writing m out outFirst outEnd r.«record»
-
-      written : List ℕ
-      written = octets_written m out outFirst outEnd r.«record»
-
-      by_writing : r.verdict ≡ Ok tt → (v : Result Unit PduParseErr) → w.verdict ≡ v → result_of v w.written true ≡ 64 * n
-          → Rewritten m out outFirst outEnd r.«record» n written
-      by_writing read (Ok z) v e =
-          let same : w.written ≡ n = omega (arith, e) in
-          rw (← same) (rewritten_back m 0 os first end out outFirst outEnd refl refl refl read v)
-      by_writing read (Err k) v e =
-          let q = writing-refused m out outFirst outEnd r.«record» v in
-          ⊎_elim (λ o. absurd (omega arith)) (λ o. absurd (omega arith)) q.numbers
-
-      go : (v : Result Unit PduParseErr) → r.verdict ≡ v → result_behind v (writing_result w) ≡ 64 * n
-          → Rewritten m out outFirst outEnd r.«record» n (octets_behind v out written)
-      go (Ok z) read e = by_writing read w.verdict refl e
-      go (Err k) p e = let q = reading-refused m 0 os first end p in absurd (omega arith)
+      go : (o : Option Message) → message_of t ≡ o → rewrite_result o os first end out out_first out_end ≡ 64 * n
+          → Back o (rewrite_octets o os first end out out_first out_end)
+      go None k e = absurd (omega arith)
+      go (Some m) k e = by_reading m k (reading_as (Some m) 0 os first end).verdict refl e

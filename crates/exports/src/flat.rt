@@ -4,7 +4,6 @@
 ghost use Rattle.std.specs.Prelude.{ℕ, ◌≡◌, refl, cond, ◌+◌, ◌*◌, ◌≤◌, leb, List, [], ◌∷◌, length};
 ghost use Rattle.bits.specs.Bits.{bit};
 ghost use Rattle.std.proofs.lemmas.List.Edits.{sets};
-ghost use Rattle.messages.specs.Calls.{message_of};
 ghost use Rattle.exports.specs.Flat.{flat_field, flat_option, flat_type3, flat_type4, flat_class, flat_saving, flat_address, flat_attachment, flat_uplink, flat_downlink, flat_list, flat_location_demand, flat_location_accept, flat_demand_head, flat_demand_options, flat_demand_generics, flat_accept_head, flat_accept_front, flat_accept_generics, flat_attach_detach_head, flat_form, shown, shown_uplinks, shown_downlinks};
 ghost use Rattle.exports.specs.FlatLaws.{Put};
 
@@ -250,8 +249,8 @@ fn put_location_accept(flat: &mut [u8], at: usize, o: &OptionalLocationAccept) -
 pub(crate) trait Flat: Pdu {
     // Puts it at the buffer's front, if the buffer has room for it.
     fn fill(self, flat: &mut [u8], skipped: usize) -> bool
-        ensures fits { result ≡ leb (length (flat_form (message_of Self.TYPE) skipped (Self.of self))) (length flat.old) }
-        ensures buffer { flat.new ≡ cond (leb (length (flat_form (message_of Self.TYPE) skipped (Self.of self))) (length flat.old)) (sets flat.old 0 (flat_form (message_of Self.TYPE) skipped (Self.of self))) flat.old };
+        ensures fits { result ≡ leb (length (flat_form Self.message skipped (Self.of self))) (length flat.old) }
+        ensures buffer { flat.new ≡ cond (leb (length (flat_form Self.message skipped (Self.of self))) (length flat.old)) (sets flat.old 0 (flat_form Self.message skipped (Self.of self))) flat.old };
 }
 
 fn put_demand_head(

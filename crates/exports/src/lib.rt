@@ -34,8 +34,8 @@ fn numbered(r: Bits) -> u64
 // Reads a message in a window that passed question 1 into a buffer.
 fn read_into<M: Flat>(octets: &[u8], c: Cursor, skipping: bool, flat: &mut [u8]) -> Bits
     requires { (c.at ≤ c.end) × (c.end ≤ 32768) }
-    ensures result { numbered result ≡ read_result (message_of M.TYPE) (called (message_of M.TYPE) skipping octets.now c.at c.end) flat.old }
-    ensures buffer { flat.new ≡ read_buffer (message_of M.TYPE) (called (message_of M.TYPE) skipping octets.now c.at c.end) flat.old }
+    ensures result { numbered result ≡ read_result (Some M.message) (called M.message skipping octets.now c.at c.end) flat.old }
+    ensures buffer { flat.new ≡ read_buffer (Some M.message) (called M.message skipping octets.now c.at c.end) flat.old }
 {
     let a = M::from_bitbuf(c, octets, skipping);
     let (n, c1) = a.verdict?;
@@ -50,7 +50,7 @@ fn read_call(message: u64, wanted: u64, octets: &[u8], c: Cursor, flat: &mut [u8
     ensures result { numbered result ≡ read_result (message_of message) (reading message wanted octets.now c.at c.end) flat.old }
     ensures buffer { flat.new ≡ read_buffer (message_of message) (reading message wanted octets.now c.at c.end) flat.old }
 {
-    if is_good_call(octets.len(), c, message, wanted) {
+    if is_good_call(octets.len(), c, wanted) {
         let skipping = wanted == SKIPPING;
         return match message_named(message) {
             Some(Message::Demand) => {
@@ -89,10 +89,10 @@ pub fn tetra_mm_read(
 
 // Rewrites a message: read in one window, `c`, and written to another one, `to`.
 fn rewrite<M: PduWriter>(octets: &[u8], c: Cursor, out: &mut [u8], to: Cursor) -> Bits
-    ensures result { numbered result ≡ rewrite_result M.TYPE octets.now c.at c.end out.old to.at to.end }
-    ensures octets { out.new ≡ rewrite_octets M.TYPE octets.now c.at c.end out.old to.at to.end }
+    ensures result { numbered result ≡ rewrite_result (Some M.message) octets.now c.at c.end out.old to.at to.end }
+    ensures octets { out.new ≡ rewrite_octets (Some M.message) octets.now c.at c.end out.old to.at to.end }
 {
-    if is_good_call(octets.len(), c, M::TYPE, STRICT) {
+    if is_good_call(octets.len(), c, STRICT) {
         let a = M::from_bitbuf(c, octets, false);
         a.verdict?;
         let w = write_as(out, to, a.record);
@@ -104,8 +104,8 @@ fn rewrite<M: PduWriter>(octets: &[u8], c: Cursor, out: &mut [u8], to: Cursor) -
 
 // The rewriting, by the message.
 fn rewrite_call(message: u64, octets: &[u8], c: Cursor, out: &mut [u8], to: Cursor) -> Bits
-    ensures result { numbered result ≡ rewrite_result message octets.now c.at c.end out.old to.at to.end }
-    ensures octets { out.new ≡ rewrite_octets message octets.now c.at c.end out.old to.at to.end }
+    ensures result { numbered result ≡ rewrite_result (message_of message) octets.now c.at c.end out.old to.at to.end }
+    ensures octets { out.new ≡ rewrite_octets (message_of message) octets.now c.at c.end out.old to.at to.end }
 {
     match message_named(message) {
         Some(Message::Demand) => rewrite::<ULocationUpdateDemand>(octets, c, out, to),
@@ -126,8 +126,8 @@ pub fn tetra_mm_rewrite(
     out_first: u64,
     out_end: u64,
 ) -> u64
-    ensures result { result ≡ rewrite_result message octets.now first end out.old out_first out_end }
-    ensures octets { out.new ≡ rewrite_octets message octets.now first end out.old out_first out_end }
+    ensures result { result ≡ rewrite_result (message_of message) octets.now first end out.old out_first out_end }
+    ensures octets { out.new ≡ rewrite_octets (message_of message) octets.now first end out.old out_first out_end }
 {
     let c = Cursor {
         at: first as usize,

@@ -34,8 +34,8 @@ pub extern "C" fn tetra_mm_rewrite(
     out_first: u64,
     out_end: u64,
 ) -> u64
-    ensures result { result ≡ rewrite_result message octets.now first end out.old out_first out_end }
-    ensures octets { out.new ≡ rewrite_octets message octets.now first end out.old out_first out_end }
+    ensures result { result ≡ rewrite_result (message_of message) octets.now first end out.old out_first out_end }
+    ensures octets { out.new ≡ rewrite_octets (message_of message) octets.now first end out.old out_first out_end }
 {
     exports::tetra_mm_rewrite(message, octets, first, end, out, out_first, out_end)
 }

@@ -5,8 +5,9 @@ ghost use Rattle.std.specs.Prelude.{◌≡◌};
 ghost use Rattle.bits.specs.Reader.{word};
 ghost use Rattle.bits.specs.Placed.{at as atCursor, refusal};
 ghost use Rattle.bits.specs.Written.{write_field};
-ghost use Rattle.messages.specs.Head.{u_location_update_demand_type, d_location_update_accept_type, d_attach_detach_group_identity_type};
-ghost use Rattle.messages.specs.Calls.{of_demand, of_accept, of_attach_detach, reading, writing, octets_written};
+ghost use Rattle.std.specs.Prelude.{Some};
+ghost use Rattle.messages.specs.Calls.{alone, reading_as, reading, written_as, octets_as};
+ghost use Rattle.messages.specs.declared.Message.TheVariants as M;
 ghost use Rattle.measure.specs.Measured.{value_or_refusal, consumed_and_refusal};
 ghost use Rattle.measure.specs.Repeated.{repeated};
 
@@ -52,9 +53,9 @@ pub extern "C" fn measure_write(
 // A message read: 64 times the bits consumed plus the refusal's number. The record is made and left behind: each message's reader
 // has a second caller, `measure_record`, and so is a function of its own in the machine code.
 fn measured<M: Pdu>(octets: &[u8], c: Cursor, wanted: u64) -> u64
-    ensures { result ≡ consumed_and_refusal (reading M.TYPE wanted octets.now c.at c.end) }
+    ensures { result ≡ consumed_and_refusal (reading_as (Some M.message) wanted octets.now c.at c.end) }
 {
-    if is_good_call(octets.len(), c, M::TYPE, wanted) {
+    if is_good_call(octets.len(), c, wanted) {
         let a = M::from_bitbuf(c, octets, wanted == SKIPPING);
         return match a.verdict {
             Ok((_, c1)) => 64 * (c1.at - c.at) as u64,
@@ -66,14 +67,14 @@ fn measured<M: Pdu>(octets: &[u8], c: Cursor, wanted: u64) -> u64
 
 #[unsafe(no_mangle)]
 pub extern "C" fn measure_read_demand(octets: &[u8], first: usize, end: usize, wanted: u64) -> u64
-    ensures { result ≡ consumed_and_refusal (reading u_location_update_demand_type wanted octets.now first end) }
+    ensures { result ≡ consumed_and_refusal (reading_as (Some M.Demand) wanted octets.now first end) }
 {
     measured::<ULocationUpdateDemand>(octets, Cursor { at: first, end }, wanted)
 }
 
 #[unsafe(no_mangle)]
 pub extern "C" fn measure_read_accept(octets: &[u8], first: usize, end: usize, wanted: u64) -> u64
-    ensures { result ≡ consumed_and_refusal (reading d_location_update_accept_type wanted octets.now first end) }
+    ensures { result ≡ consumed_and_refusal (reading_as (Some M.Accept) wanted octets.now first end) }
 {
     measured::<DLocationUpdateAccept>(octets, Cursor { at: first, end }, wanted)
 }
@@ -85,7 +86,7 @@ pub extern "C" fn measure_read_attach_detach(
     end: usize,
     wanted: u64,
 ) -> u64
-    ensures { result ≡ consumed_and_refusal (reading d_attach_detach_group_identity_type wanted octets.now first end) }
+    ensures { result ≡ consumed_and_refusal (reading_as (Some M.AttachDetach) wanted octets.now first end) }
 {
     measured::<DAttachDetachGroupIdentity>(octets, Cursor { at: first, end }, wanted)
 }
@@ -106,8 +107,8 @@ pub extern "C" fn measure_record(
 
 // A message written: the number of bits, 0 with a refusal.
 fn written<M: PduWriter>(d: M, octets: &mut [u8], c: Cursor) -> u64
-    ensures bits { result ≡ (writing M.TYPE octets.old c.at c.end (M.of d)).written }
-    ensures octets { octets.new ≡ octets_written M.TYPE octets.old c.at c.end (M.of d) }
+    ensures bits { result ≡ (written_as M.message octets.old c.at c.end (M.of d)).written }
+    ensures octets { octets.new ≡ octets_as M.message octets.old c.at c.end (M.of d) }
 {
     write_as(octets, c, d).written as u64
 }
@@ -119,8 +120,8 @@ pub extern "C" fn measure_write_demand(
     first: usize,
     end: usize,
 ) -> u64
-    ensures bits { result ≡ (writing u_location_update_demand_type octets.old first end (of_demand d)).written }
-    ensures octets { octets.new ≡ octets_written u_location_update_demand_type octets.old first end (of_demand d) }
+    ensures bits { result ≡ (written_as M.Demand octets.old first end (alone M.Demand d)).written }
+    ensures octets { octets.new ≡ octets_as M.Demand octets.old first end (alone M.Demand d) }
 {
     written(d, octets, Cursor { at: first, end })
 }
@@ -132,8 +133,8 @@ pub extern "C" fn measure_write_accept(
     first: usize,
     end: usize,
 ) -> u64
-    ensures bits { result ≡ (writing d_location_update_accept_type octets.old first end (of_accept d)).written }
-    ensures octets { octets.new ≡ octets_written d_location_update_accept_type octets.old first end (of_accept d) }
+    ensures bits { result ≡ (written_as M.Accept octets.old first end (alone M.Accept d)).written }
+    ensures octets { octets.new ≡ octets_as M.Accept octets.old first end (alone M.Accept d) }
 {
     written(d, octets, Cursor { at: first, end })
 }
@@ -145,16 +146,16 @@ pub extern "C" fn measure_write_attach_detach(
     first: usize,
     end: usize,
 ) -> u64
-    ensures bits { result ≡ (writing d_attach_detach_group_identity_type octets.old first end (of_attach_detach d)).written }
-    ensures octets { octets.new ≡ octets_written d_attach_detach_group_identity_type octets.old first end (of_attach_detach d) }
+    ensures bits { result ≡ (written_as M.AttachDetach octets.old first end (alone M.AttachDetach d)).written }
+    ensures octets { octets.new ≡ octets_as M.AttachDetach octets.old first end (alone M.AttachDetach d) }
 {
     written(d, octets, Cursor { at: first, end })
 }
 
 // A message written `times` times, each time by a writing call: the number of bits that the last one wrote.
 fn writes<M: PduWriter>(d: M, octets: &mut [u8], c: Cursor, times: usize) -> u64
-    ensures bits { result ≡ (repeated M.TYPE c.at c.end (M.of d) times octets.old).bits }
-    ensures octets { octets.new ≡ (repeated M.TYPE c.at c.end (M.of d) times octets.old).octets }
+    ensures bits { result ≡ (repeated M.message c.at c.end (M.of d) times octets.old).bits }
+    ensures octets { octets.new ≡ (repeated M.message c.at c.end (M.of d) times octets.old).octets }
 {
     let mut bits: u64 = 0;
     for _ in 0..times {
@@ -172,8 +173,8 @@ pub extern "C" fn measure_writes_demand(
     end: usize,
     times: usize,
 ) -> u64
-    ensures bits { result ≡ (repeated u_location_update_demand_type first end (of_demand d) times octets.old).bits }
-    ensures octets { octets.new ≡ (repeated u_location_update_demand_type first end (of_demand d) times octets.old).octets }
+    ensures bits { result ≡ (repeated M.Demand first end (alone M.Demand d) times octets.old).bits }
+    ensures octets { octets.new ≡ (repeated M.Demand first end (alone M.Demand d) times octets.old).octets }
 {
     writes(d, octets, Cursor { at: first, end }, times)
 }
@@ -186,8 +187,8 @@ pub extern "C" fn measure_writes_accept(
     end: usize,
     times: usize,
 ) -> u64
-    ensures bits { result ≡ (repeated d_location_update_accept_type first end (of_accept d) times octets.old).bits }
-    ensures octets { octets.new ≡ (repeated d_location_update_accept_type first end (of_accept d) times octets.old).octets }
+    ensures bits { result ≡ (repeated M.Accept first end (alone M.Accept d) times octets.old).bits }
+    ensures octets { octets.new ≡ (repeated M.Accept first end (alone M.Accept d) times octets.old).octets }
 {
     writes(d, octets, Cursor { at: first, end }, times)
 }
@@ -200,8 +201,8 @@ pub extern "C" fn measure_writes_attach_detach(
     end: usize,
     times: usize,
 ) -> u64
-    ensures bits { result ≡ (repeated d_attach_detach_group_identity_type first end (of_attach_detach d) times octets.old).bits }
-    ensures octets { octets.new ≡ (repeated d_attach_detach_group_identity_type first end (of_attach_detach d) times octets.old).octets }
+    ensures bits { result ≡ (repeated M.AttachDetach first end (alone M.AttachDetach d) times octets.old).bits }
+    ensures octets { octets.new ≡ (repeated M.AttachDetach first end (alone M.AttachDetach d) times octets.old).octets }
 {
     writes(d, octets, Cursor { at: first, end }, times)
 }

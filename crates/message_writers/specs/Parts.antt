@@ -1,132 +1,144 @@
--- What two of the messages share as they are written: the two addresses, generic elements in a row; and how long type 2 elements are.
-use Rattle.std.specs.Prelude.{ℕ, ◌+◌, ◌*◌, ◌<◌, ◌≤◌, ◌≡◌, refl, Bool, true, false, cond, List, [], ◌∷◌, ◌++◌, map, length, get_or, leb, sum_by}
-use Rattle.std.proofs.Common.{arith, sym, ap, ap₂, ◌∙◌, append_assoc, append-nil, length-append, leb-true}
-use Rattle.std.specs.List.{list_all}
-use Rattle.std.proofs.lemmas.List.Sums.{sum_by-cons, sum_by-le, AllPass-from_list_all}
-use Rattle.bits.specs.Bits.{Bits, digits}
-use Rattle.bits.specs.BitsLaws.{length_digits}
-use Rattle.bits.specs.Written.{joined}
-use Rattle.bits.specs.PutsLaws.{joined-append}
-use Rattle.elements.specs.Table.{mbit_width}
-use Rattle.elements.specs.Numbers.{held, option_all, type2_bits, in_u64, flag_width}
-use Rattle.elements.proofs.NumbersLaws.{both}
-use Rattle.elements.specs.ClassOfMs.{class_bits, numbers_bits}
-use Rattle.elements.specs.EnergySaving.{saving_bits}
-use Rattle.elements.specs.Generics.{type3_fits}
-use Rattle.elements.specs.Lists.{each}
-use Rattle.elements.specs.TableWritten.{table_bits}
-use Rattle.elements.specs.Kinds.{row, generic_type3, identifier_of, content_bits, type3_held, type3_slot}
-use Rattle.elements.specs.declared.class_of_ms.ClassOfMs.{ClassOfMs}
-use Rattle.elements.specs.declared.energy_saving_information.EnergySavingInformation.{EnergySavingInformation}
-use Rattle.elements.specs.declared.typed_pdu_fields.OptionalU64.{OptionalU64}
-use Rattle.elements.specs.declared.typed_pdu_fields.OptionalType3.{OptionalType3}
-use Rattle.element_writers.specs.WrittenElements.{type3_parts, type3-joined, type3_size, type3_size_lem}
-use Rattle.messages.specs.Head.{ssi_width, extension_width}
-use Rattle.message_writers.specs.WritesLaws.{generic_bits, type3_slot_lem}
-use Rattle.message_writers.specs.declared.parts.GenericsAsked.{GenericsAsked}
+-- The parts that a message is written in, and what is asked of each, from its description.
+use Rattle.std.specs.Prelude.{ℕ, zero, suc, ◌+◌, ◌≤◌, ◌≡◌, Bool, true, not, cond, ◌&&◌, List, [], ◌∷◌, ◌++◌, length, is_some}
+use Rattle.bits.specs.Bits.{Bits, bit, digits}
+use Rattle.elements.specs.Numbers.{option_all, in_width, flag_width, type2_bits}
+use Rattle.elements.specs.Table.{mbit_width, length_width}
+use Rattle.elements.specs.Lists.{downlinks}
+use Rattle.elements.specs.Kinds.{Stored, held_in, kind_fits}
+use Rattle.elements.specs.declared.typed_pdu_fields.Kind.{Kind}
+use Rattle.elements.specs.declared.typed_pdu_fields.Kind.TheVariants as K
+use Rattle.elements.specs.declared.typed_pdu_fields.Row.{Row}
+use Rattle.element_writers.specs.GroupsAsked.{asked_list}
+use Rattle.element_writers.specs.WrittenElements.{type3_parts, type3_size, outer_list_parts}
+use Rattle.element_writers.specs.LocationAsked.{demand_location_asked, accept_location_asked, demand_location_parts, accept_location_parts}
+use Rattle.element_writers.specs.declared.group_address.GroupsAsked.{GroupsAsked}
+use Rattle.element_writers.specs.declared.group_address.LocationAsked.{LocationAsked}
+use Rattle.messages.specs.Head.{pdu_type_width}
+use Rattle.messages.specs.Questions.{fits, ciphered, alive, saving, type3_only}
+use Rattle.messages.specs.Description.{Field, number, switched, Type2, Description, Fields, Options, Slots, Values, fields_bits, options_bits, slots_bits, fields_asked, options_asked, slots_asked}
+use Rattle.message_writers.specs.declared.questions.FieldsAsked.{FieldsAsked}
+use Rattle.message_writers.specs.declared.questions.OptionsAsked.{OptionsAsked}
+use Rattle.message_writers.specs.declared.questions.ElementsAsked.{ElementsAsked}
+use Rattle.message_writers.specs.declared.questions.MessageElements.{MessageElements}
 
-abbrev pub addresses_bits : OptionalU64 → OptionalU64 → Bits
-addresses_bits s e = type2_bits (digits ssi_width) (in_u64 s) ++ type2_bits (digits extension_width) (in_u64 e)
+-- ## up to the O-bit
 
--- ## generic elements in a row
+abbrev pub front_bits : (d : Description) → Fields d.fields → Bool → Bits
+front_bits d vs o = digits pdu_type_width d.type ++ fields_bits d.fields vs (digits flag_width (bit o))
 
-abbrev pub fits3 : OptionalType3 → Bool
-fits3 o = option_all type3_fits (type3_held o)
+unfoldable pub fields_size : (fs : List Field) → Fields fs → ℕ
+fields_size [] vs = 0
+fields_size (number w ∷ fs) vs = w + fields_size fs vs.1
+fields_size (switched w ∷ fs) vs = flag_width + (cond vs.0.1.present w 0 + fields_size fs vs.1)
 
--- one of them: its identifier, and the element, which may be absent
-abbrev pub Generic : Type 0
-Generic = ℕ × OptionalType3
+abbrev pub fields_answers : (d : Description) → Fields d.fields → FieldsAsked
+fields_answers d vs = record {
+  fits = fields_asked d.fields vs fits;
+  ciphered = fields_asked d.fields vs ciphered;
+  size = pdu_type_width + (fields_size d.fields vs + flag_width);
+}
 
-abbrev pub generic_fits : Generic → Bool
-generic_fits g = fits3 g.1
+-- ## the type 2 elements
 
-abbrev pub generic_size : Generic → ℕ
-generic_size g = type3_size g.1
+unfoldable pub options_size : (cs : List Type2) → Options cs → ℕ
+options_size [] os = 0
+options_size (c ∷ cs) os = flag_width + (cond (is_some (c.held os.0)) c.width 0 + options_size cs os.1)
 
-abbrev pub generic_parts : Generic → List Bits
-generic_parts g = type3_parts g.0 g.1
+abbrev pub options_answers : (cs : List Type2) → Options cs → OptionsAsked
+options_answers cs os = record {
+  fits = options_asked cs os fits;
+  alive = options_asked cs os alive;
+  saving = options_asked cs os saving;
+  size = options_size cs os;
+}
 
--- whether each fits, and how many bits they have together
-abbrev pub generics_asked : List Generic → GenericsAsked
-generics_asked gs = record { fits = list_all generic_fits gs; size = sum_by generic_size gs }
+-- they are written in two fields: the first n of them, and those behind
+abbrev pub first_options : ℕ → (cs : List Type2) → Options cs → Bits
+first_options zero cs os = []
+first_options (suc n) [] os = []
+first_options (suc n) (c ∷ cs) os = type2_bits c.bits (c.held os.0) ++ first_options n cs os.1
 
--- each of them, and the closing M-bit
-abbrev pub generics_parts : List Generic → List Bits
-generics_parts gs = each generic_parts gs ++ (digits mbit_width 0 ∷ [])
+abbrev pub last_options : ℕ → (cs : List Type2) → Options cs → Bits
+last_options zero cs os = options_bits cs os []
+last_options (suc n) [] os = []
+last_options (suc n) (c ∷ cs) os = last_options n cs os.1
 
--- as a table has them
-abbrev pub generics_bits : List Generic → Bits
-generics_bits gs = table_bits identifier_of content_bits (map (λ g. row g.0 generic_type3) gs) (map (λ g. type3_slot g.1) gs)
+-- ## the listed elements
 
--- each that is written fits
-pub each-fits : (gs : List Generic) (i : ℕ) (d : Generic) → i < length gs → list_all generic_fits gs ≡ true → fits3 (get_or gs i d).1 ≡ true
-each-fits gs i d h f = AllPass-from_list_all generic_fits gs f i d h
+-- of elements, and behind them others
+abbrev pub asked_both : ElementsAsked → ElementsAsked → ElementsAsked
+asked_both x y = record {
+  fits = x.fits && y.fits;
+  one = x.one && y.one;
+  listed = x.listed && y.listed;
+  type3_only = x.type3_only && y.type3_only;
+  short = x.short && y.short;
+  size = x.size + y.size;
+}
 
--- at most 80 bits each
-type3_most : (o : OptionalType3) → type3_size o ≤ 80
-unfolding type3_size
-type3_most o = go o.present (leb o.value.len 64) refl
-  where
-    go : (p b : Bool) → leb o.value.len 64 ≡ b → cond p (cond b (16 + o.value.len) 0) 0 ≤ 80
-    go true true e = omega (arith, leb-true o.value.len 64 e)
-    go true false e = omega arith
-    go false b e = omega arith
+abbrev pub asked_none : ElementsAsked
+asked_none = record { fits = true; one = true; listed = true; type3_only = true; short = true; size = 0 }
 
-pub generics_most : (gs : List Generic) → (generics_asked gs).size ≤ length gs * 80
-generics_most gs = sum_by-le generic_size 80 gs (λ i d h. type3_most (get_or gs i d).1)
+-- of a generic element
+abbrev pub generic_answers : Bool → Bool → ℕ → ElementsAsked
+generic_answers f t n = record { fits = f; one = true; listed = true; type3_only = t; short = true; size = n }
 
-generics-joined : (gs : List Generic) → joined (generics_parts gs) ≡ generics_bits gs
-unfolding joined each table_bits
-generics-joined [] = append-nil (digits mbit_width 0)
-generics-joined (g ∷ gs) =
-    rw (append_assoc (generic_parts g) (each generic_parts gs) (digits mbit_width 0 ∷ []))
-    (joined-append (generic_parts g) (generics_parts gs) ∙ ap₂ (λ (xs ys : Bits). xs ++ ys) (type3-joined g.0 g.1 ∙ sym (type3_slot_lem g.0 g.1)) (generics-joined gs))
+-- of a structure with a list, and of a list
+abbrev pub location_answers : Bool → LocationAsked → ElementsAsked
+location_answers p a = record { fits = a.fits; one = a.one; listed = a.listed; type3_only = true; short = a.short; size = cond p (16 + a.content) 0 }
 
--- the bits that they and the M-bit have
-generics_bits-length : (gs : List Generic) → (generics_asked gs).fits ≡ true → length (generics_bits gs) ≡ (generics_asked gs).size + 1
-unfolding table_bits
-generics_bits-length [] h = length_digits mbit_width 0
-generics_bits-length (g ∷ gs) h =
-    let f = both (generic_fits g) _ h in
-    rw (type3_slot_lem g.0 g.1)
-    (omega (arith, length-append (generic_bits g.0 g.1) (generics_bits gs), type3_size_lem g.0 g.1 f.0, sum_by-cons generic_size g gs, generics_bits-length gs f.1))
+abbrev pub list_answers : Bool → GroupsAsked → ElementsAsked
+list_answers p a = record { fits = a.fits; one = a.one; listed = a.listed; type3_only = true; short = in_width length_width a.size; size = cond p (16 + a.size) 0 }
 
-generics-length : (gs : List Generic) → (generics_asked gs).fits ≡ true → length (joined (generics_parts gs)) ≡ (generics_asked gs).size + 1
-generics-length gs h = ap length (generics-joined gs) ∙ generics_bits-length gs h
+-- AN ELEMENT of each kind, which may be absent
+abbrev pub kind_answers : (k : Kind) → Stored k → ElementsAsked
+kind_answers K.Type3 s = generic_answers (option_all (kind_fits K.Type3) (held_in K.Type3 s)) true (type3_size s)
+kind_answers K.Type4 s = generic_answers (option_all (kind_fits K.Type4) (held_in K.Type4 s)) (not s.present) 0
+kind_answers K.LocationDemand s = location_answers s.present (demand_location_asked s)
+kind_answers K.LocationAccept s = location_answers s.present (accept_location_asked s)
+kind_answers K.Downlinks s = list_answers s.present (asked_list downlinks s)
 
--- BEHIND OTHER PARTS: their bits, and how many
-module _ (before : List Bits) (gs : List Generic) where
-  pub then-generics : {xs : Bits} → joined before ≡ xs → joined (before ++ generics_parts gs) ≡ xs ++ generics_bits gs
-  then-generics e = joined-append before (generics_parts gs) ∙ ap₂ (λ (xs ys : Bits). xs ++ ys) e (generics-joined gs)
+-- the parts that it is written in; a type 4 element is not written
+abbrev pub kind_parts : (k : Kind) → ℕ → Stored k → List Bits
+kind_parts K.Type3 i s = type3_parts i s
+kind_parts K.Type4 i s = []
+kind_parts K.LocationDemand i s = demand_location_parts i (demand_location_asked s).list (demand_location_asked s).content s
+kind_parts K.LocationAccept i s = accept_location_parts i (accept_location_asked s).list (accept_location_asked s).content s
+kind_parts K.Downlinks i s = outer_list_parts i (asked_list downlinks s).size s
 
-  pub then-generics-length : {n : ℕ} → length (joined before) ≡ n → (generics_asked gs).fits ≡ true
-      → length (joined (before ++ generics_parts gs)) ≡ n + ((generics_asked gs).size + 1)
-  then-generics-length e h =
-      ap length (joined-append before (generics_parts gs)) ∙ length-append (joined before) (joined (generics_parts gs)) ∙ ap₂ (λ (x y : ℕ). x + y) e (generics-length gs h)
+-- the lengths of its list's content, and of its own
+abbrev pub kind_lengths : (k : Kind) → Stored k → ℕ × ℕ → ℕ × ℕ
+kind_lengths K.LocationDemand s none = ((demand_location_asked s).list, (demand_location_asked s).content)
+kind_lengths K.LocationAccept s none = ((accept_location_asked s).list, (accept_location_asked s).content)
+kind_lengths K.Downlinks s none = ((asked_list downlinks s).size, (asked_list downlinks s).size)
+kind_lengths k s none = none
 
--- ## lengths of type 2 elements
+-- of the slots of a table, behind others
+abbrev pub asked_behind : ElementsAsked → (rs : List Row) → Slots rs → ElementsAsked
+asked_behind a [] ss = a
+asked_behind a (r ∷ rs) ss = asked_behind (asked_both a (kind_answers r.kind ss.0)) rs ss.1
 
-pub class-length : (m : ClassOfMs) → length (class_bits m) ≡ 24
-unfolding class_bits numbers_bits digits
-class-length m = refl
+abbrev pub slots_parts : (rs : List Row) → Slots rs → List Bits
+slots_parts [] ss = digits mbit_width 0 ∷ []
+slots_parts (r ∷ rs) ss = kind_parts r.kind r.identifier ss.0 ++ slots_parts rs ss.1
 
-pub saving-length : (e : EnergySavingInformation) → length (saving_bits e) ≡ 14
-unfolding saving_bits digits
-saving-length e = refl
+-- the lengths of the slot with groups
+abbrev pub slots_lengths : (rs : List Row) → Slots rs → ℕ × ℕ
+slots_lengths [] ss = (0, 0)
+slots_lengths (r ∷ rs) ss = kind_lengths r.kind ss.0 (slots_lengths rs ss.1)
 
--- a type 2 element whose value has w bits
-pub type2-length : {A : Type 0} (bits : A → Bits) (w : ℕ) → ((a : A) → length (bits a) ≡ w) → (p : Bool) (a : A) → length (type2_bits bits (held p a)) ≡ 1 + cond p w 0
-type2-length bits w h true a = let l = length_digits flag_width 1 in omega (arith, length-append (digits flag_width 1) (bits a), h a)
-type2-length bits w h false a = let l = length_digits flag_width 0 in omega (arith, length-append (digits flag_width 0) [])
+abbrev pub elements_answers : (rs : List Row) → Slots rs → MessageElements
+elements_answers rs ss = record { asked = asked_behind asked_none rs ss; list = (slots_lengths rs ss).0; content = (slots_lengths rs ss).1 }
 
-pub cond-most : (p : Bool) (w : ℕ) → cond p w 0 ≤ w
-cond-most true w = omega arith
-cond-most false w = omega arith
+-- ## of a message
 
-pub addresses_length : (s e : OptionalU64) → length (addresses_bits s e) ≡ (1 + cond s.present 24 0) + (1 + cond e.present 24 0)
-addresses_length s e =
-    length-append (type2_bits (digits ssi_width) (in_u64 s)) (type2_bits (digits extension_width) (in_u64 e))
-    ∙ rw (type2-length (digits ssi_width) ssi_width (length_digits ssi_width) s.present s.value, type2-length (digits extension_width) extension_width (length_digits extension_width) e.present e.value)
+module _ (d : Description) (v : Values d) where
+  abbrev pub elements_in : Bits
+  elements_in = slots_bits d.table v.slots
 
-pub addresses_most : (s e : OptionalU64) → length (addresses_bits s e) ≤ 64
-addresses_most s e = omega (arith, addresses_length s e, cond-most s.present 24, cond-most e.present 24)
+  -- what the questions allow to be written, given the lengths that were asked, where n bits are left
+  pub record Allowed (list content n : ℕ) : Type 0 where
+    pub fit : slots_asked d.table v.slots fits ≡ true
+    pub only : slots_asked d.table v.slots type3_only ≡ true
+    pub lengths : (list, content) ≡ slots_lengths d.table v.slots
+    pub room : length elements_in ≤ n

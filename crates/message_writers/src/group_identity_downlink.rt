@@ -11,13 +11,14 @@ use elements::group_identity_downlink::OptionalDownlinks;
 pub(crate) fn write_downlinks(
     c: Cursor,
     octets: &mut [u8],
+    identifier: u8,
     list: &OptionalDownlinks,
     size: usize,
 ) -> Cursor
-    ensures { Puts (outer_list_parts size list.now) (spot octets.old c) (spot octets.new result) }
+    ensures { Puts (outer_list_parts identifier size list.now) (spot octets.old c) (spot octets.new result) }
 {
     if list.present {
-        return write_list(c, octets, list, size);
+        return write_list(c, octets, identifier, list, size);
     }
     c
 }

@@ -7,20 +7,20 @@ use crate::group_list::write_nested;
 use bits::bitbuffer::Cursor;
 use element_writers::typed_pdu_fields::element_header;
 use elements::group_identity_location_demand::OptionalLocationDemand;
-use elements::type34_elem_id_ul::GROUP_IDENTITY_LOCATION_DEMAND;
 
 // The element, which may be absent; its list's content has `list` bits, its own `content`.
 pub(crate) fn write_location_demand(
     c: Cursor,
     octets: &mut [u8],
+    identifier: u8,
     o: &OptionalLocationDemand,
     list: usize,
     content: usize,
 ) -> Cursor
-    ensures { Puts (demand_location_parts list content o.now) (spot octets.old c) (spot octets.new result) }
+    ensures { Puts (demand_location_parts identifier list content o.now) (spot octets.old c) (spot octets.new result) }
 {
     if o.present {
-        let h = element_header(GROUP_IDENTITY_LOCATION_DEMAND, content);
+        let h = element_header(identifier, content);
         let b = h.then(0, 1);
         let front = b.then(o.value.group_identity_attach_detach_mode as u64, 1);
         return write_nested(c, octets, front, &o.value.group_identity_uplink, list);

@@ -7,29 +7,28 @@ mod group_identity_downlink;
 mod group_identity_location_accept;
 mod group_identity_location_demand;
 mod group_list;
-pub mod parts;
-pub mod questions;
+mod parts;
+mod questions;
 mod typed_pdu_fields;
 pub mod u_location_update_demand;
 
 ghost use Rattle.std.specs.Prelude.{◌≡◌, Ok};
 ghost use Rattle.bits.specs.Placed.{as_moved};
 ghost use Rattle.bits.specs.PduParseError.{bad_call};
-ghost use Rattle.messages.specs.Calls.{message_of, message_asked, message_bits, writing, writing_of, octets_written};
+ghost use Rattle.messages.specs.Calls.{message_asked, message_bits, written_as, octets_as, writing, writing_of, octets_written};
 ghost use Rattle.messages.specs.RoundTrip.{RoundTrip};
 ghost use Rattle.bits.specs.Written.{written};
-ghost use Rattle.message_writers.specs.Writes.{write_message};
-ghost use Rattle.message_writers.specs.CallsLaws.{Behind, writing_by};
+ghost use Rattle.message_writers.specs.Writes.{write_message, Behind, writing_by};
 
 use bits::bitbuffer::{Cursor, Moved};
 use bits::pdu_parse_error::PduParseErr;
-use messages::{Message, Pdu, Record, STRICT, Writing, is_good_call, message_named};
+use messages::{Message, Pdu, Record, Writing, is_good_window, message_named};
 
 // A message that can be written.
 pub trait PduWriter: Pdu {
     // The message, if it passes the questions; a refusal changes nothing.
     fn to_bitbuf(self, c: Cursor, octets: &mut [u8]) -> Moved
-        ensures { written octets.new (as_moved result) ≡ write_message (message_asked (message_of Self.TYPE) (Self.of self)) (message_bits (message_of Self.TYPE) (Self.of self)) octets.old c };
+        ensures { written octets.new (as_moved result) ≡ write_message (message_asked Self.message (Self.of self)) (message_bits Self.message (Self.of self)) octets.old c };
 }
 
 // The answer of what was written from `first` on.
@@ -61,10 +60,10 @@ fn refused() -> Writing
 
 // A writing call of a message's own record; `c` is the window.
 pub fn write_as<M: PduWriter>(octets: &mut [u8], c: Cursor, d: M) -> Writing
-    ensures answer { result ≡ writing M.TYPE octets.old c.at c.end (M.of d) }
-    ensures octets { octets.new ≡ octets_written M.TYPE octets.old c.at c.end (M.of d) }
+    ensures answer { result ≡ written_as M.message octets.old c.at c.end (M.of d) }
+    ensures octets { octets.new ≡ octets_as M.message octets.old c.at c.end (M.of d) }
 {
-    if is_good_call(octets.len(), c, M::TYPE, STRICT) {
+    if is_good_window(octets.len(), c) {
         return answered(c.at, d.to_bitbuf(c, octets));
     }
     refused()

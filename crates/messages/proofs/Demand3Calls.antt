@@ -14,12 +14,13 @@ use Rattle.elements.specs.Kinds.{identifier_of, content}
 use Rattle.elements.proofs.NumbersLaws.{both}
 use Rattle.messages.specs.Format.{leaves, stays}
 use Rattle.messages.proofs.Demand3.{Refuses, Inside, Demand3, demand3}
-use Rattle.messages.specs.Calls.{Message, message_of, format_of, read_message, walk_over, known, octets_most, good_window, good_call, window_of, reading_of, reading}
+use Rattle.messages.specs.Calls.{message_of, format_of, read_message, walk_over, octets_most, good_window, good_call, window_of, reading_of, called, reading}
+use Rattle.messages.specs.declared.Message.{Message}
 use Rattle.messages.proofs.ReadBack.{messages_regular}
 use Rattle.messages.proofs.CallNumbers.{accepted-refused}
 use Rattle.messages.specs.declared.Record.{Record}
 use Rattle.messages.specs.declared.Reading.{Reading}
-use Rattle.std.specs.Prelude.{Ok, Err}
+use Rattle.std.specs.Prelude.{Some, Ok, Err}
 use Rattle.bits.specs.declared.pdu_parse_error.PduParseErr.{PduParseErr}
 
 -- a call gives a record, or none
@@ -39,19 +40,19 @@ pub record SkipsTo (S T : Reading) (us : List Piece) : Type 0 where
   -- and its bits consumed are T's plus the bits cut
   pub consumed : S.verdict ≡ Ok tt → S.consumed ≡ T.consumed + total us
 
--- DEMAND 3 for the call on m, os, first and end
-pub record Demand3Call (m : ℕ) (os : List ℕ) (first end : ℕ) : Type 0 where
+-- DEMAND 3 for the call on t, the type number of the message m, and on os, first and end
+pub record Demand3Call (t : ℕ) (m : Message) (os : List ℕ) (first end : ℕ) : Type 0 where
   -- the walk stays inside the window, us are the elements to cut and c is the cut message: in any octets and window that hold exactly c
-  pub inside : (us : List Piece) (c : Bits) → walk_over (message_of m) (window_of os first end) ≡ stays us c
+  pub inside : (us : List Piece) (c : Bits) → walk_over m (window_of os first end) ≡ stays us c
       → (os' : List ℕ) (first' end' : ℕ) → good_window (length os') first' end' ≡ true → window_of os' first' end' ≡ c
-      → SkipsTo (reading m 1 os first end) (reading m 0 os' first' end') us
+      → SkipsTo (reading t 1 os first end) (reading t 0 os' first' end') us
   -- of which there are some
-  pub exists : (us : List Piece) (c : Bits) → walk_over (message_of m) (window_of os first end) ≡ stays us c
+  pub exists : (us : List Piece) (c : Bits) → walk_over m (window_of os first end) ≡ stays us c
       → (os' : List ℕ) × (end' : ℕ) × Octets os' × (good_window (length os') 0 end' ≡ true) × (window_of os' 0 end' ≡ c)
   -- if one or more elements are cut, the strict reading gives no record for the uncut message
-  pub uncut : (us : List Piece) (c : Bits) → walk_over (message_of m) (window_of os first end) ≡ stays us c → 0 < length us → GivesNone (reading m 0 os first end)
+  pub uncut : (us : List Piece) (c : Bits) → walk_over m (window_of os first end) ≡ stays us c → 0 < length us → GivesNone (reading t 0 os first end)
   -- where the walk leaves the window, neither reading gives a record
-  pub outside : walk_over (message_of m) (window_of os first end) ≡ leaves → GivesNone (reading m 1 os first end) × GivesNone (reading m 0 os first end)
+  pub outside : walk_over m (window_of os first end) ≡ leaves → GivesNone (reading t 1 os first end) × GivesNone (reading t 0 os first end)
 
 -- ## a call that passes question 1
 
@@ -59,10 +60,10 @@ pub window-is : (n first end : ℕ) → good_window n first end ≡ (leb n octet
 unfolding good_window
 window-is n first end = refl
 
-pub call_is : (m how : ℕ) (os : List ℕ) (first end : ℕ) → known m ≡ true → leb how 1 ≡ true → good_window (length os) first end ≡ true
-    → reading m how os first end ≡ reading_of first (length (window_of os first end)) (read_message (message_of m) (eqb how 1) (window_of os first end))
+pub call_is : (t : ℕ) {m : Message} → message_of t ≡ Some m → (how : ℕ) (os : List ℕ) (first end : ℕ) → leb how 1 ≡ true → good_window (length os) first end ≡ true
+    → reading t how os first end ≡ called m (eqb how 1) os first end
 unfolding reading good_call
-call_is m how os first end k h w = rw (k, h, w)
+call_is t k how os first end h w = rw (k, h, w)
 
 refused_none : (first n : ℕ) (x : Answer (Counted Record)) → Refuses x → GivesNone (reading_of first n x)
 refused_none first n x (k, e) = (k, rw e)
@@ -128,26 +129,26 @@ skips-to m bs c us first first' i = go (read_message m true bs) refl (read_messa
     }
 
 -- DEMAND 3
-pub demand3_call : (m : ℕ) (os : List ℕ) (first end : ℕ) → known m ≡ true → good_window (length os) first end ≡ true → Demand3Call m os first end
-demand3_call m os first end k w = record {
+pub demand3_call : (t : ℕ) (m : Message) (os : List ℕ) (first end : ℕ) → message_of t ≡ Some m → good_window (length os) first end ≡ true → Demand3Call t m os first end
+demand3_call t m os first end k w = record {
   inside = λ us c h os' first' end' w' e.
-      rw (call_is m 1 os first end k refl w, call_is m 0 os' first' end' k refl w', e)
-      (skips-to (message_of m) bs c us first first' (d.inside us c h));
+      rw (call_is t k 1 os first end refl w, call_is t k 0 os' first' end' refl w', e)
+      (skips-to m bs c us first first' (d.inside us c h));
   exists = λ us c h. packed c (short us c h);
-  uncut = λ us c h more. rw (call_is m 0 os first end k refl w) (refused_none first (length bs) (read_message (message_of m) false bs) ((d.inside us c h).refuses more));
+  uncut = λ us c h more. rw (call_is t k 0 os first end refl w) (refused_none first (length bs) (read_message m false bs) ((d.inside us c h).refuses more));
   outside = λ h. (
-    rw (call_is m 1 os first end k refl w) (refused_none first (length bs) (read_message (message_of m) true bs) (d.outside h).0),
-    rw (call_is m 0 os first end k refl w) (refused_none first (length bs) (read_message (message_of m) false bs) (d.outside h).1),
+    rw (call_is t k 1 os first end refl w) (refused_none first (length bs) (read_message m true bs) (d.outside h).0),
+    rw (call_is t k 0 os first end refl w) (refused_none first (length bs) (read_message m false bs) (d.outside h).1),
   );
 }
   where
     bs : Bits
     bs = window_of os first end
 
-    d : Demand3 identifier_of content (format_of (message_of m)) bs
-    d = demand3 identifier_of content (format_of (message_of m)) (messages_regular (message_of m)) bs
+    d : Demand3 identifier_of content (format_of m) bs
+    d = demand3 identifier_of content (format_of m) (messages_regular m) bs
 
-    short : (us : List Piece) (c : Bits) → walk_over (message_of m) bs ≡ stays us c → length c ≤ 8 * octets_most
+    short : (us : List Piece) (c : Bits) → walk_over m bs ≡ stays us c → length c ≤ 8 * octets_most
     short us c h =
         let q = both (leb (length os) octets_most) _ (rw (window-is (length os) first end) at w) in
         let few : length os ≤ octets_most = leb-true _ _ q.0 in

@@ -17,18 +17,17 @@ use Rattle.elements.specs.Generics.{kept, type3, type4, type3_bits, type4_bits, 
 use Rattle.elements.specs.Lists.{uplinks, downlinks, list, list_bits, list_fits, list_one, list_listed, each, all}
 use Rattle.elements.specs.Locations.{demand_body, location_demand, nested, location_demand_fits, location_demand_bits, accept_body, location_accept}
 use Rattle.elements.specs.Locations.{location_accept_fits, location_accept_bits, nested_bits}
-use Rattle.elements.specs.Kinds.{content_of, content_bits_of}
+use Rattle.elements.specs.Kinds.{content, content_bits}
 use Rattle.elements.specs.declared.class_of_ms.ClassOfMs.{ClassOfMs}
 use Rattle.elements.specs.declared.group_identity_uplink.OptionalUplinks.{OptionalUplinks}
 use Rattle.elements.specs.declared.group_identity_downlink.OptionalDownlinks.{OptionalDownlinks}
 use Rattle.messages.specs.Format.{message}
-use Rattle.messages.specs.Head.{pdu_type, any_of, any_present}
+use Rattle.messages.specs.Head.{pdu_type, any_present}
 use Rattle.bits.specs.PduParseError.{error_of}
-use Rattle.messages.specs.Questions.{first_no}
-use Rattle.messages.specs.Demand.{demand_head, demand_options, demand_more, demand_bits, demand_asked}
-use Rattle.messages.specs.Accept.{accept_head, accept_options, accept_more, accept_bits, accept_asked}
-use Rattle.messages.specs.AttachDetach.{attach_detach_head, attach_detach_bits, attach_detach_asked}
-use Rattle.messages.specs.Calls.{known, good_window, good_call, reading, writing_refusal, writing, octets_written}
+use Rattle.messages.specs.Questions.{tests, first_no}
+use Rattle.messages.specs.Description.{read_fields, read_options, read_head, fields_bits, options_bits, any_option, head_bits, more, bits}
+use Rattle.messages.specs.Description.{fields_asked, options_asked, slots_asked, asked}
+use Rattle.messages.specs.Calls.{message_among, message_of, good_window, good_call, reading, writing_refusal, written_as, octets_as, writing, octets_written}
 use Rattle.messages.proofs.ExampleRecords.{in64, a_type3, no_type3, a_type4, no_type4, only, version_7, a_saving, no_saving, uplink_with}
 use Rattle.messages.proofs.ExampleRecords.{downlink_with, downlink_array, these_uplinks, these_downlinks, no_downlinks, a_location_demand}
 use Rattle.messages.proofs.ExampleRecords.{no_location_demand, demand_with, demand_full, demand_other, accept_with, accept_full, attach_detach_with}
@@ -296,9 +295,9 @@ unfolding numbers_bits energy_saving accept_body location_accept location_accept
     element_bits table_bits type_of listed_form address_of address_bits address_fits uplink_address uplink uplink_bits uplink_fits uplink_one
     uplink_listed numbers numbers_fit class_of_ms_element class_bits class_fits saving_fits saving_bits alive_has_none others_have_both kept
     type3 type4 type3_bits type4_bits type3_fits type4_fits list list_bits list_fits list_one list_listed each all location_demand_fits
-    location_demand_bits nested_bits content_of content_bits_of message pdu_type any_of any_present first_no demand_head demand_options
-    demand_more demand_bits demand_asked accept_head accept_options accept_more accept_bits accept_asked attach_detach_head attach_detach_bits
-    attach_detach_asked known good_window good_call reading writing_refusal writing octets_written
+    location_demand_bits nested_bits content content_bits message pdu_type any_present tests first_no read_fields read_options read_head
+    fields_bits options_bits any_option head_bits more bits fields_asked options_asked slots_asked asked message_among message_of good_window
+    good_call reading writing_refusal written_as octets_as writing octets_written
 rows_hold =
     refl also refl also refl also refl also refl also refl also refl also refl also refl also refl also refl also refl also
     refl also refl also refl also refl also refl also refl also refl also refl also refl also refl also refl also refl also

@@ -39,11 +39,6 @@ module _ {S A : Type 0} (identifier : S → ℕ) (content : S → ℕ → Reader
   absent_slots (s ∷ ss) (None ∷ vs) e = ap (λ vs. None ∷ vs) (absent_slots ss vs e)
   absent_slots (s ∷ ss) (Some a ∷ vs) e = never (sym e)
 
-  absent-own : (ss : List S) → normal_slots normal ss (map (λ s. None) ss) ≡ map (λ s. None) ss
-  unfolding normal_slots
-  absent-own [] = refl
-  absent-own (s ∷ ss) = ap (λ vs. None ∷ vs) (absent-own ss)
-
   module _ {R : Type 0} (f : Format S A R) where
     -- a message whose head is read back is read back, with or without its slots behind the O-bit
     pub format_back : distinct identifier f.table ≡ true → (vs : List (Option A)) → SlotsBack content content_bits normal f.table vs
@@ -58,15 +53,3 @@ module _ {S A : Type 0} (identifier : S → ℕ) (content : S → ℕ → Reader
             ≡ got (counted 0 (f.finish h (normal_slots normal f.table vs))) rest
         go true absent = rw (table-back identifier content content_bits normal (is_listed identifier f.table) f.table apart vs backs rest)
         go false absent = rw (absent_slots f.table vs (absent refl))
-
-    -- a record is its own normal form where the record of such a head and such slots is
-    pub format_own : (own : R → R)
-        → ((bs rest : Bits) (h : f.Head) → f.head bs ≡ got h rest → (vs : List (Option A))
-        → normal_slots normal f.table vs ≡ vs → own (f.finish h vs) ≡ f.finish h vs)
-        → (b : Bool)
-        → ((bs rest : Bits) (y : Counted (List (Option A))) → scan_table identifier content b f.table bs ≡ got y rest
-        → normal_slots normal f.table y.value ≡ y.value)
-        → (bs : Bits) {x : Counted R} {rest : Bits} → message identifier content f b bs ≡ got x rest → own x.value ≡ x.value
-    format_own own made b slots bs e =
-        message-made identifier content f (λ x. own x.value ≡ x.value) b bs (λ h mid p o y r q. made bs mid h p y.value (slots mid r y q))
-        (λ h mid p o. made bs mid h p _ (absent-own f.table)) e

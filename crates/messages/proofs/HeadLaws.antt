@@ -1,15 +1,15 @@
 -- Laws of the heads' parts: local, passed by the layout, read back.
-use Rattle.std.specs.Prelude.{ℕ, ◌≡◌, refl, Bool, true, false, cond, ◌||◌, List, [], ◌∷◌, ◌++◌, eqb}
-use Rattle.std.proofs.Common.{sym, ap, append_assoc, eq-eqb}
+use Rattle.std.specs.Prelude.{ℕ, ◌≡◌, refl, Bool, true, false, cond, List, [], ◌∷◌, ◌++◌, eqb}
+use Rattle.std.proofs.Common.{ap, append_assoc, eq-eqb}
 use Rattle.std.specs.Prelude.{Option, None, Some}
 use Rattle.bits.specs.PduParseError.{invalid_pdu_type}
 use Rattle.bits.specs.Bits.{Bits, bit, digits}
 use Rattle.bits.specs.BitsLaws.{bit_lt}
 use Rattle.bits.specs.Reader.{Reader, got, ◌>>=◌, field, pass, unless, Local}
 use Rattle.bits.specs.ReaderLaws.{local·rules, refused-got, field_back, got-local, bind_local, Follows, Passes, got-passes, field-passes, bind_passes, got_follows, optional_follows, by-pass, by-same}
-use Rattle.elements.specs.Numbers.{held, in_width, flag_width, type2, announced}
-use Rattle.elements.proofs.NumbersLaws.{never, number-back, one_bit}
-use Rattle.messages.specs.Head.{pdu_type_width, pdu_type, behind_obit, pass_if, pass_type2, layout_options, any_of, any_present}
+use Rattle.elements.specs.Numbers.{in_width, flag_width, type2, announced}
+use Rattle.elements.proofs.NumbersLaws.{number-back, one_bit}
+use Rattle.messages.specs.Head.{pdu_type_width, pdu_type, behind_obit, pass_if, pass_type2, layout_options}
 
 -- ## the type
 
@@ -77,22 +77,3 @@ module _ {A : Type 0} (r : Reader A) (z : A) where
       behind : (o : Bool) → (o ≡ false → z ≡ a) → behind_obit r z o (cond o (before xs) [] ++ rest) ≡ got a (cond o xs [] ++ rest)
       behind true absent = rw (append xs rest) (back (xs ++ rest))
       behind false absent = ap (λ x. got x rest) (absent refl)
-
-pub both_false : (a b : Bool) → (a || b) ≡ false → (a ≡ false) × (b ≡ false)
-both_false true b e = never (sym e)
-both_false false b e = (refl, e)
-
-abbrev pub NoneOf : List Bool → Type 0
-NoneOf [] = Unit
-NoneOf (b ∷ bs) = (b ≡ false) × NoneOf bs
-
-pub none_of : (bs : List Bool) → any_of bs ≡ false → NoneOf bs
-unfolding any_of
-none_of [] e = tt
-none_of (b ∷ bs) e = let x = both_false b (any_of bs) e in (x.0, none_of bs x.1)
-
--- where an O-bit is 0, none of the five type 2 elements before the slots is held
-pub none_held : {A B C D E S T : Type 0} (f : Option A → Option B → Option C → Option D → Option E → T) (vs : List (Option S)) (p q r s t : Bool)
-    (a : A) (b : B) (c : C) (d : D) (e : E) → (any_of (p ∷ q ∷ r ∷ s ∷ t ∷ []) || any_present vs) ≡ false
-    → f None None None None None ≡ f (held p a) (held q b) (held r c) (held s d) (held t e)
-none_held f vs p q r s t a b c d e h = let n = none_of _ (both_false (any_of _) (any_present vs) h).0 in rw (n.0, n.1.0, n.1.1.0, n.1.1.1.0, n.1.1.1.1.0)

@@ -1,25 +1,20 @@
--- What the kind that a number names tells of the number.
-use Rattle.std.specs.Prelude.{ℕ, ◌≡◌, Option, None, Some, is_some}
-use Rattle.std.proofs.Common.{arith}
-use Rattle.std.proofs.lemmas.Bool.Decides.{nat_tests}
-use Rattle.messages.specs.Head.{u_location_update_demand_type, d_location_update_accept_type, d_attach_detach_group_identity_type}
-use Rattle.messages.specs.Calls.{Named, known}
+-- What the message that a number names tells of the number.
+use Rattle.std.specs.Prelude.{ℕ, ◌≡◌, refl, Bool, true, false, cond, List, [], ◌∷◌, eqb, Some}
+use Rattle.std.proofs.Common.{eqb-true}
+use Rattle.bits.specs.ReaderLaws.{zero_one}
+use Rattle.messages.specs.Calls.{all_messages, type_of, message_among, message_of}
 use Rattle.messages.specs.declared.Message.{Message}
-use Rattle.messages.specs.declared.Message.TheVariants as K
 
--- a number is known if a kind is named
-pub known_named : (m : ℕ) (k : Option Message) → Named m k → known m ≡ is_some k
-known_named m None n = n
-known_named m (Some k) n = n.0
+type_among : (ms : List Message) (n : ℕ) {m : Message} → message_among ms n ≡ Some m → n ≡ type_of m
+unfolding message_among
+type_among [] n e = zero_one (cc)
+type_among (k ∷ ks) n {m} e = go (eqb n (type_of k)) refl (λ q. type_among ks n q) e
+  where
+    go : (b : Bool) → eqb n (type_of k) ≡ b → (message_among ks n ≡ Some m → n ≡ type_of m) → cond b (Some k) (message_among ks n) ≡ Some m → n ≡ type_of m
+    go true h others e = let same : k ≡ m = cc in rw (← same) (eqb-true n (type_of k) h)
+    go false h others e = others e
 
--- a kind's number
-abbrev pub type_of : Message → ℕ
-type_of K.Demand = u_location_update_demand_type
-type_of K.Accept = d_location_update_accept_type
-type_of K.AttachDetach = d_attach_detach_group_identity_type
-
-pub type_named : (m : ℕ) (k : Message) → Named m (Some k) → m ≡ type_of k
-unfolding known
-type_named m K.Demand n = grind (arith, nat_tests)
-type_named m K.Accept n = grind (arith, nat_tests)
-type_named m K.AttachDetach n = grind (arith, nat_tests)
+-- it is the message's type
+pub type_named : (n : ℕ) {m : Message} → message_of n ≡ Some m → n ≡ type_of m
+unfolding message_of
+type_named n e = type_among all_messages n e

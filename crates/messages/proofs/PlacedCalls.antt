@@ -3,7 +3,7 @@ use Rattle.std.specs.Prelude.{ℕ, ◌+◌, ◌-◌, ◌*◌, ◌/◌, ◌≤◌
 use native.Mathlib.Omega.{arith}
 use Rattle.std.proofs.Math.Path.{refl}
 use Rattle.std.proofs.Common.{sym, ap, ◌∙◌, length-drop, take_all}
-use Rattle.std.specs.Prelude.{Option}
+use Rattle.std.specs.Prelude.{Option, None, Some}
 use Rattle.std.proofs.Math.ListN.{length}
 use borrow.Author.Tests.{leb-true}
 use Rattle.bits.specs.PduParseError.{bad_call}
@@ -20,8 +20,9 @@ use Rattle.messages.proofs.FormatLaws.{message-made}
 use Rattle.messages.proofs.Demand3.{message_tail}
 use Rattle.messages.proofs.ReadBack.{messages_regular}
 use Rattle.messages.proofs.CallNumbers.{accepted-refused}
-use Rattle.messages.specs.Calls.{accepted, called, Message, message_of, format_of, read_message, known, octets_most, good_window, good_call, window_of, no_reading, reading_of, reading, behind}
-use Rattle.messages.specs.MessageAnswers.{message_answer, Own}
+use Rattle.messages.specs.Calls.{accepted, called, message_of, format_of, read_message, octets_most, good_window, good_call, window_of, no_reading, reading_of, reading_as, reading, behind}
+use Rattle.messages.specs.MessageAnswers.{message_answer, Kept}
+use Rattle.messages.specs.declared.Message.{Message}
 use Rattle.messages.specs.declared.MessageRead.{MessageRead}
 use Rattle.messages.specs.declared.Record.{Record}
 use Rattle.messages.specs.declared.Reading.{Reading}
@@ -45,7 +46,7 @@ module _ (m : Message) where
   made_by P made b bs e =
       message-made identifier_of content (format_of m) (λ x. P x.value) b bs (λ h mid p o y r q. made h y.value) (λ h mid p o. made h _) e
 
-  module _ {R : Type 0} {own : Record → R} {of : R → Record} (o : Own m own of)
+  module _ {R : Type 0} {own : Record → R} {of : R → Record} (o : Kept m own of)
       (b : Bool) (os : List ℕ) (c : Cursor) {y : MessageRead R} (e : y ≡ message_answer own (at (read_message m b) os c)) where
     pub record Taken (n : ℕ) (k : Cursor) : Type 0 where
       pub on : c.at ≤ k.at
@@ -80,56 +81,68 @@ module _ (m : Message) where
 
 -- ## the call
 
-module _ (m how : ℕ) (os : List ℕ) (first end : ℕ) where
-  pub good_call_lem : (x : Message) → message_of m ≡ x → good_call m how (length os) first end ≡ true → called x (eqb how 1) os first end ≡ reading m how os first end
-  unfolding reading
-  good_call_lem x e g = rw (← e, g)
-
-  pub bad_call_lem : good_call m how (length os) first end ≡ false → no_reading bad_call first ≡ reading m how os first end
-  unfolding reading
-  bad_call_lem g = rw g
+module _ (m : Message) (how : ℕ) (os : List ℕ) (first end : ℕ) where
+  pub good_call_lem : good_call how (length os) first end ≡ true → called m (eqb how 1) os first end ≡ reading_as (Some m) how os first end
+  good_call_lem g = rw g
 
   -- A GOOD CALL, by the verdict of the message's reader
-  module _ {R : Type 0} {own : Record → R} {of : R → Record} (o : Own (message_of m) own of)
-      (good : good_call m how (length os) first end ≡ true) {y : MessageRead R}
-      (e : y ≡ message_answer own (at (read_message (message_of m) (eqb how 1)) os (record { at = first; end = end }))) where
-    pub call_taken : {n : ℕ} {k : Cursor} → y.verdict ≡ Ok (n, k) → accepted first n k (of y.«record») ≡ reading m how os first end
-    call_taken v = (taken (message_of m) o (eqb how 1) os _ e v).answer ∙ good_call_lem (message_of m) refl good
+  module _ {R : Type 0} {own : Record → R} {of : R → Record} (o : Kept m own of) (good : good_call how (length os) first end ≡ true) {y : MessageRead R}
+      (e : y ≡ message_answer own (at (read_message m (eqb how 1)) os (record { at = first; end = end }))) where
+    pub call_taken : {n : ℕ} {k : Cursor} → y.verdict ≡ Ok (n, k) → accepted first n k (of y.«record») ≡ reading_as (Some m) how os first end
+    call_taken v = (taken m o (eqb how 1) os _ e v).answer ∙ good_call_lem good
 
-    pub call_refused : {n : PduParseErr} → y.verdict ≡ Err n → no_reading n first ≡ reading m how os first end
-    call_refused v = not_taken (message_of m) o (eqb how 1) os _ e v ∙ good_call_lem (message_of m) refl good
+    pub call_refused : {n : PduParseErr} → y.verdict ≡ Err n → no_reading n first ≡ reading_as (Some m) how os first end
+    call_refused v = not_taken m o (eqb how 1) os _ e v ∙ good_call_lem good
 
-  -- the window of a good call lies inside the octets, which are few
-  pub good_window_lem : good_call m how (length os) first end ≡ true → (first ≤ end) × (end ≤ 8 * length os) × (length os ≤ octets_most)
-  unfolding good_call good_window
-  good_window_lem g =
-      let w = (both (leb how 1) _ (both (known m) _ g).1).1 in
-      let inside = both (leb first end) _ (both (leb (length os) octets_most) _ w).1 in
-      (leb-true _ _ inside.0, leb-true _ _ inside.1, leb-true _ _ (both (leb (length os) octets_most) _ w).0)
+-- the window of a good call lies inside the octets, which are few
+pub good_window_lem : (how n first end : ℕ) → good_call how n first end ≡ true → (first ≤ end) × (end ≤ 8 * n) × (n ≤ octets_most)
+unfolding good_call good_window
+good_window_lem how n first end g =
+    let w = (both (leb how 1) _ g).1 in
+    let inside = both (leb first end) _ (both (leb n octets_most) _ w).1 in
+    (leb-true _ _ inside.0, leb-true _ _ inside.1, leb-true _ _ (both (leb n octets_most) _ w).0)
+
+-- by a type number, which names a message or none
+pub named_call : (t : ℕ) {o : Option Message} → message_of t ≡ o → (how : ℕ) (os : List ℕ) (first end : ℕ)
+    → reading_as o how os first end ≡ reading t how os first end
+unfolding reading
+named_call t e how os first end = rw e
+
+module _ (o : Option Message) (how : ℕ) (os : List ℕ) (first end : ℕ) where
+  pub bad_call_lem : good_call how (length os) first end ≡ false → no_reading bad_call first ≡ reading_as o how os first end
+  bad_call_lem g = go o
+    where
+      go : (o : Option Message) → no_reading bad_call first ≡ reading_as o how os first end
+      go None = refl
+      go (Some m) = rw g
 
   -- and so does a record's place
-  pub place_inside : {r : Reading} → r ≡ reading m how os first end → r.verdict ≡ Ok tt → (r.place ≤ 8 * length os) × (length os ≤ octets_most)
-  unfolding reading
-  place_inside e v = rw e (go (good_call m how (length os) first end) refl (rw e at v))
+  pub place_inside : {r : Reading} → r ≡ reading_as o how os first end → r.verdict ≡ Ok tt → (r.place ≤ 8 * length os) × (length os ≤ octets_most)
+  place_inside e v = rw e (go o (rw e at v))
     where
       at_place : (x : Answer (Counted Record)) → (reading_of first (length (window_of os first end)) x).verdict ≡ Ok tt
           → (reading_of first (length (window_of os first end)) x).place ≤ first + length (window_of os first end)
       at_place (got x rest) v = omega arith
       at_place (refused n) v = accepted-refused (sym v)
 
-      go : (g : Bool) → good_call m how (length os) first end ≡ g → (cond g (called (message_of m) (eqb how 1) os first end) (no_reading bad_call first)).verdict ≡ Ok tt
-          → ((cond g (called (message_of m) (eqb how 1) os first end) (no_reading bad_call first)).place ≤ 8 * length os) × (length os ≤ octets_most)
-      go true g v =
-          let w = good_window_lem g in
+      by_call : (m : Message) (g : Bool) → good_call how (length os) first end ≡ g → (cond g (called m (eqb how 1) os first end) (no_reading bad_call first)).verdict ≡ Ok tt
+          → ((cond g (called m (eqb how 1) os first end) (no_reading bad_call first)).place ≤ 8 * length os) × (length os ≤ octets_most)
+      by_call m true g v =
+          let w = good_window_lem how (length os) first end g in
           let l : length (window_of os first end) ≡ min (end - first) (8 * length os - first) = length-window os (record { at = first; end = end }) in
-          let p = at_place (read_message (message_of m) (eqb how 1) (window_of os first end)) v in
+          let p = at_place (read_message m (eqb how 1) (window_of os first end)) v in
           (omega arith, w.2)
-      go false g v = accepted-refused (sym v)
+      by_call m false g v = accepted-refused (sym v)
 
-  -- the octets behind it are an end of them
-  pub behind-place : {r : Reading} → r ≡ reading m how os first end → r.verdict ≡ Ok tt
-      → take (length os - (r.place + 7) / 8) (drop ((r.place + 7) / 8) os) ≡ behind (reading m how os first end) os
-  behind-place {r} e v = rw (← e) (rw v (take_all (length os - (r.place + 7) / 8) (drop ((r.place + 7) / 8) os) (simp length-drop (omega arith))))
+      go : (o : Option Message) → (reading_as o how os first end).verdict ≡ Ok tt
+          → ((reading_as o how os first end).place ≤ 8 * length os) × (length os ≤ octets_most)
+      go None v = accepted-refused (sym v)
+      go (Some m) v = by_call m (good_call how (length os) first end) refl v
 
-  pub behind-refused : {r : Reading} {n : PduParseErr} → r ≡ reading m how os first end → r.verdict ≡ Err n → os ≡ behind (reading m how os first end) os
-  behind-refused e v = rw (← e) (rw v)
+-- the octets behind it are an end of them
+module _ (os : List ℕ) {r x : Reading} (e : r ≡ x) where
+  pub behind-place : r.verdict ≡ Ok tt → take (length os - (r.place + 7) / 8) (drop ((r.place + 7) / 8) os) ≡ behind x os
+  behind-place v = rw (← e) (rw v (take_all (length os - (r.place + 7) / 8) (drop ((r.place + 7) / 8) os) (simp length-drop (omega arith))))
+
+  pub behind-refused : {n : PduParseErr} → r.verdict ≡ Err n → os ≡ behind x os
+  behind-refused v = rw (← e) (rw v)

@@ -1,14 +1,17 @@
 -- The parts of the messages' heads, read at a cursor.
-use Rattle.std.specs.Prelude.{ℕ, ◌≡◌, Bool, List}
-use Rattle.std.proofs.Common.{eq-eqb, ne_eqb}
+use Rattle.std.specs.Prelude.{ℕ, ◌≡◌, refl, Bool, true, false, List, eqb, option_map}
+use Rattle.std.proofs.Common.{sym, ◌∙◌, eq-eqb, ne_eqb}
 use Rattle.std.specs.Prelude.{Option, None, Some}
 use Rattle.bits.specs.PduParseError.{invalid_pdu_type}
-use Rattle.bits.specs.Reader.{Reader, ◌>>=◌, field, optional, Local, Tail}
-use Rattle.bits.specs.ReaderLaws.{local·rules, local_tail, field-local, optional-local}
-use Rattle.bits.specs.Placed.{Placed, placed, halted}
+use Rattle.bits.specs.Bits.{Bits}
+use Rattle.bits.specs.Reader.{Answer, got, refused, Reader, then, ◌>>=◌, field, optional, Local, Tail}
+use Rattle.bits.specs.ReaderLaws.{then-then, then_same, local·rules, local_tail, field-local, optional-local}
+use Rattle.bits.specs.Placed.{window, Placed, placed, halted}
+use Rattle.bits.specs.PlacedTimes.{alike}
 use Rattle.bits.specs.PlacedLaws.{Gives, step, stop, done, refuse}
 use Rattle.bits.specs.declared.bitbuffer.Cursor.{Cursor}
-use Rattle.elements.specs.Numbers.{type2}
+use Rattle.elements.specs.Numbers.{flag_width, type2}
+use Rattle.elements.proofs.PlacedLocations.{read-made}
 use Rattle.messages.specs.Head.{pdu_type_width, pdu_type}
 use Rattle.messages.proofs.HeadLaws.{type_local, type2-local}
 use Rattle.bits.specs.declared.pdu_parse_error.PduParseErr.{PduParseErr}
@@ -71,3 +74,24 @@ past-type2 q f w g l = past f w g (local_tail (type2-local q l))
 abbrev pub past-optional : {A B K : Type 0} {r : Reader B} (q : Reader A) (b : Bool) (f : Option A → Reader B) {os : List ℕ} {c k n : Cursor} {o : Option A}
     → Comes K r os c (optional Some None b q >>= f) k → Gives (optional Some None b q) os k (placed o n) → Local q → Way r
 past-optional q b f w g l = past f w g (local_tail (optional-local Some None b q l))
+
+-- ## a type 2 element whose value is made of the one that the code reads
+
+module _ {A B : Type 0} (g : A → B) (r : Reader A) where
+  type2-of : (bs : Bits) → type2 (r >>= λ a. got (g a)) bs ≡ (type2 r >>= λ o. got (option_map g o)) bs
+  type2-of bs = then_same (field flag_width bs) (λ p rest. go (eqb p 1) rest) ∙ sym (then-then (field flag_width bs) _ _)
+    where
+      at_value : (x : Answer A) → then (then x (λ a. got (g a))) (λ b. got (Some b)) ≡ then x (λ a. got (Some (g a)))
+      at_value (got a rest) = refl
+      at_value (refused n) = refl
+
+      go : (b : Bool) (rest : Bits) → optional Some None b (r >>= λ a. got (g a)) rest ≡ (optional Some None b r >>= λ o. got (option_map g o)) rest
+      go true rest = at_value (r rest) ∙ sym (then-then (r rest) _ _)
+      go false rest = refl
+
+  module _ {os : List ℕ} {c : Cursor} where
+    pub type2-made : {o : Option A} {k : Cursor} → Gives (type2 r) os c (placed o k) → Gives (type2 (r >>= λ a. got (g a))) os c (placed (option_map g o) k)
+    type2-made e = alike (type2 r >>= λ o. got (option_map g o)) (type2-of (window os c)) (read-made (option_map g) e)
+
+    pub type2-unmade : {n : PduParseErr} → Gives (type2 r) os c (halted n) → Gives (type2 (r >>= λ a. got (g a))) os c (halted n)
+    type2-unmade e = alike (type2 r >>= λ o. got (option_map g o)) (type2-of (window os c)) (stop _ e)

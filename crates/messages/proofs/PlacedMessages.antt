@@ -11,13 +11,14 @@ use Rattle.elements.specs.Table.{Look, outside, ends, opens, look, closing, Coun
 use Rattle.elements.proofs.TableLaws.{scan-unseen, scan-empty}
 use Rattle.elements.specs.Rows.{follows_at, element_follows}
 use Rattle.elements.proofs.PlacedTable.{follows_tail}
-use Rattle.elements.specs.Kinds.{Slot, Element, identifier_of, content}
+use Rattle.elements.specs.Kinds.{Element, identifier_of, content}
+use Rattle.elements.specs.declared.typed_pdu_fields.Row.{Row}
 use Rattle.messages.specs.Format.{Format, body, message}
 use Rattle.messages.specs.declared.Record.{Record}
 use Rattle.bits.specs.declared.pdu_parse_error.PduParseErr.{PduParseErr}
 
-module _ (f : Format Slot Element Record) (skipping : Bool) where
-  module _ {s : Slot} {ss : List Slot} (table : f.table ≡ s ∷ ss) where
+module _ (f : Format Row Element Record) (skipping : Bool) where
+  module _ {s : Row} {ss : List Row} (table : f.table ≡ s ∷ ss) where
     -- ONE LOOK BEFORE THE TABLE: whether an element follows tells of the body what the O-bit told
     look-first : (h : f.Head) (m : Bool) (bs : Bits) → body identifier_of content f skipping h m bs ≡ (element_follows m >>= body identifier_of content f skipping h) bs
     unfolding element_follows
@@ -29,12 +30,12 @@ module _ (f : Format Slot Element Record) (skipping : Bool) where
         go ends l = rw (scan-empty identifier_of content (is_listed identifier_of f.table) skipping f.table bs l) (then-both (closing bs) _ _ _ _ (λ z rest. refl))
         go (opens i) l = refl
 
-module _ (f : Format Slot Element Record) (skipping : Bool) {os : List ℕ} {c : Cursor} where
+module _ (f : Format Row Element Record) (skipping : Bool) {os : List ℕ} {c : Cursor} where
   pub no_head : {n : PduParseErr} → Gives f.head os c (halted n) → Gives (message identifier_of content f skipping) os c (halted n)
   unfolding message
   no_head e = stop _ e
 
-  module _ {s : Slot} {ss : List Slot} (table : f.table ≡ s ∷ ss) {h : f.Head} {k : Cursor} (e : Gives f.head os c (placed h k)) (tail : Tail f.head) where
+  module _ {s : Row} {ss : List Row} (table : f.table ≡ s ∷ ss) {h : f.Head} {k : Cursor} (e : Gives f.head os c (placed h k)) (tail : Tail f.head) where
     behind-head : {x : Placed (Counted Record)} → Gives (element_follows (f.more h) >>= body identifier_of content f skipping h) os k x
         → Gives (message identifier_of content f skipping) os c x
     unfolding message

@@ -1,121 +1,207 @@
--- Laws of a message's slots: what its record's fields are where the slots were written and read back, or read.
-use Rattle.std.specs.Prelude.{ℕ, zero, suc, ◌<◌, ◌≡◌, Bool, List, [], ◌∷◌, length, get_or, option_map}
-use Rattle.std.proofs.Common.{arith, sym, ap, ◌∙◌}
-use Rattle.std.proofs.Math.Path.{refl}
-use Rattle.std.proofs.Math.Bool.{true, false}
-use Rattle.std.specs.Prelude.{Option, None, Some}
+-- Laws of a table's slots: what was written is read back, and what is read is its own normal form.
+use Rattle.std.specs.Prelude.{ℕ, ◌≡◌, refl, Bool, true, false, List, [], ◌∷◌, map, length, option_map, Option, None, Some}
+use Rattle.std.proofs.Common.{ap}
 use Rattle.bits.specs.Bits.{Bits}
 use Rattle.bits.specs.Reader.{got}
-use Rattle.elements.specs.Numbers.{held}
+use Rattle.bits.specs.ReaderLaws.{split-then}
+use Rattle.elements.specs.Numbers.{option_all, held}
+use Rattle.elements.proofs.NumbersLaws.{both, held-option}
 use Rattle.elements.specs.Table.{Counted, scan_table}
-use Rattle.elements.proofs.TableBack.{SlotsBack, normal_slot, normal_slots}
-use Rattle.elements.specs.Lists.{downlinks, list_held, list_normal}
-use Rattle.elements.proofs.ListsLaws.{downlinks_sound, absent-own}
-use Rattle.elements.specs.Locations.{location_demand_normal, location_accept_normal}
-use Rattle.elements.specs.Kinds.{Kind, Slot, row, generic_type3, generic_type4, of_location_demand, of_location_accept, of_downlinks, Element, is_type3, is_type4, is_location_demand, is_location_accept, is_downlinks, no_element, held_element, normal_of, identifier_of, content, content_bits, element_normal, type3_held, type3_option, type4_held, type4_option, location_demand_option, location_accept_option}
-use Rattle.elements.specs.declared.group_identity_downlink.OptionalDownlinks.{OptionalDownlinks}
+use Rattle.elements.proofs.TableLaws.{AllSlots, slots_end, one-slot, scan-all}
+use Rattle.elements.proofs.TableBack.{SlotBack, SlotsBack, normal_slot, normal_slots}
+use Rattle.elements.specs.Generics.{no_type3, no_type4}
+use Rattle.elements.specs.Lists.{entries_most, list_normal}
+use Rattle.elements.specs.Locations.{no_location_demand, no_location_accept}
+use Rattle.elements.specs.Kinds.{Value, kind_content, kind_normal, SameValue, Element, of_kind, value_in, identifier_of, content, content_bits, element_normal, Stored, stored, held_in, stored_in}
+use Rattle.elements.proofs.KindsLaws.{kind-own, kind-same, Full, kind_normal-same, kind_back}
+use Rattle.elements.specs.declared.typed_pdu_fields.Kind.{Kind}
+use Rattle.elements.specs.declared.typed_pdu_fields.Kind.TheVariants as K
+use Rattle.elements.specs.declared.typed_pdu_fields.Row.{Row}
+use Rattle.messages.specs.Questions.{Question, fits, attached, formed, short}
+use Rattle.messages.specs.Description.{Slots, slots_in, elements_of, kind_asked, slots_asked, slots_normal, SameHeld, SameSlots}
+use Rattle.messages.proofs.DescriptionLaws.{Yes}
+use Rattle.messages.proofs.DescriptionBack.{held-same}
+use Rattle.messages.proofs.FullLists.{kind-full}
 
-abbrev pub slot_normal : Slot → Option Element → Option Element
-slot_normal = normal_slot element_normal
+-- ## one slot
 
-abbrev pub slots_normal : List Slot → List (Option Element) → List (Option Element)
-slots_normal = normal_slots element_normal
+pub value-of : (k : Kind) (v : Value k) → value_in k (Some (of_kind k v)) ≡ Some v
+value-of K.Type3 v = refl
+value-of K.Type4 v = refl
+value-of K.LocationDemand v = refl
+value-of K.LocationAccept v = refl
+value-of K.Downlinks v = refl
 
--- each slot's bits are short enough and read as its normal form
-abbrev pub SlotsRead : List Slot → List (Option Element) → Type 0
-SlotsRead = SlotsBack content content_bits element_normal
+pub value-none : (k : Kind) → value_in k None ≡ None
+value-none K.Type3 = refl
+value-none K.Type4 = refl
+value-none K.LocationDemand = refl
+value-none K.LocationAccept = refl
+value-none K.Downlinks = refl
 
--- the slots that a reading of the table gives are their own normal forms
-abbrev pub SlotsOwn : List Slot → Type 0
-SlotsOwn ss = (b : Bool) (bs rest : Bits) (y : Counted (List (Option Element))) → scan_table identifier_of content b ss bs ≡ got y rest → slots_normal ss y.value ≡ y.value
+-- what holds of what is held
+abbrev pub IfHeld : {A : Type 0} → (A → Type 0) → Option A → Type 0
+IfHeld P None = Unit
+IfHeld P (Some a) = P a
 
-slot_at : (ss : List Slot) (vs : List (Option Element)) (n : ℕ) (s : Slot) → n < length ss
-    → get_or (slots_normal ss vs) n None ≡ slot_normal (get_or ss n s) (get_or vs n None)
-unfolding normal_slots
-slot_at [] vs n s h = absurd (omega arith)
-slot_at (t ∷ ss) [] zero s h = refl
-slot_at (t ∷ ss) [] (suc n) s h = slot_at ss [] n s (omega arith)
-slot_at (t ∷ ss) (v ∷ vs) zero s h = refl
-slot_at (t ∷ ss) (v ∷ vs) (suc n) s h = slot_at ss vs n s (omega arith)
+-- an outer list is there
+abbrev pub There : (k : Kind) → Value k → Type 0
+There K.Type3 v = Unit
+There K.Type4 v = Unit
+There K.LocationDemand v = Unit
+There K.LocationAccept v = Unit
+There K.Downlinks v = v.present ≡ true
 
--- where a slot is its own normal form, so is a field of what it holds
-pub record Owned {O : Type 0} (s : Slot) (field : Element → O) (normal : O → O) : Type 0 where
-  pub at : (v : Option Element) → slot_normal s v ≡ v → normal (field (held_element v)) ≡ field (held_element v)
+full_there : (k : Kind) (v : Value k) → Full k v → There k v
+full_there K.Type3 v f = tt
+full_there K.Type4 v f = tt
+full_there K.LocationDemand v f = tt
+full_there K.LocationAccept v f = tt
+full_there K.Downlinks v f = f.0
 
-field-own : {O : Type 0} {s : Slot} {field : Element → O} {normal : O → O} → normal (field no_element) ≡ field no_element
-    → ((a : Element) → normal (field (element_normal s a)) ≡ field (element_normal s (element_normal s a))) → Owned s field normal
-field-own {O} {s} {field} {normal} absent present = record { at = go }
-  where
-    go : (v : Option Element) → slot_normal s v ≡ v → normal (field (held_element v)) ≡ field (held_element v)
-    go None e = absent
-    go (Some a) e = let h : element_normal s a ≡ a = cc in rw (h, h) at (present a)
+normal_there : (k : Kind) (v : Value k) → Full k v → There k (kind_normal k v)
+unfolding list_normal
+normal_there K.Type3 v f = tt
+normal_there K.Type4 v f = tt
+normal_there K.LocationDemand v f = tt
+normal_there K.LocationAccept v f = tt
+normal_there K.Downlinks v f = rw f.0
 
--- so it is for each slot, where all slots are their own normal forms
-pub slot-own : (ss : List Slot) (vs : List (Option Element)) → slots_normal ss vs ≡ vs → {O : Type 0} {field : Element → O} {normal : O → O}
-    → (n : ℕ) → n < length ss → Owned (get_or ss n (row 0 generic_type3)) field normal
-    → normal (field (held_element (get_or vs n None))) ≡ field (held_element (get_or vs n None))
-slot-own ss vs e n h o = o.at (get_or vs n None) (sym (slot_at ss vs n _ h) ∙ ap (λ ws. get_or ws n None) e)
+-- a record holds what it stores
+stored-held : (k : Kind) (o : Option (Value k)) → IfHeld (There k) o → held_in k (stored k o) ≡ o
+stored-held K.Type3 o t = held-option no_type3 o
+stored-held K.Type4 o t = held-option no_type4 o
+stored-held K.LocationDemand o t = held-option no_location_demand o
+stored-held K.LocationAccept o t = held-option no_location_accept o
+stored-held K.Downlinks None t = refl
+stored-held K.Downlinks (Some l) t = rw t
 
-module _ (i : ℕ) where
-  -- ## what was written and read back
+-- ## what each slot holds
 
-  -- a field of what a slot of a kind holds, where the slot was filled with what may be absent
-  pub record Slotted {A O : Type 0} (k : Kind) (field : Element → O) (is : A → Element) (of : Option A → O) : Type 0 where
-    pub at : (o : Option A) → field (held_element (slot_normal (row i k) (option_map is o))) ≡ of o
+abbrev pub FullSlots : (rs : List Row) → Slots rs → Type 0
+FullSlots [] ss = Unit
+FullSlots (r ∷ rs) ss = IfHeld (Full r.kind) (held_in r.kind ss.0) × FullSlots rs ss.1
 
-  field-slot : {A O : Type 0} {k : Kind} {field : Element → O} {is : A → Element} {of : Option A → O} → field no_element ≡ of None
-      → ((a : A) → field (normal_of k (is a)) ≡ of (Some a)) → Slotted k field is of
-  field-slot {A} {O} {k} {field} {is} {of} absent present = record { at = go }
-    where
-      go : (o : Option A) → field (held_element (slot_normal (row i k) (option_map is o))) ≡ of o
-      go None = absent
-      go (Some a) = present a
+-- so it is where each array that is stored has all its entries, as the code's types say
+abbrev pub FullArray : (k : Kind) → Stored k → Type 0
+FullArray K.Type3 s = Unit
+FullArray K.Type4 s = Unit
+FullArray K.LocationDemand s = length s.value.group_identity_uplink.groups ≡ entries_most
+FullArray K.LocationAccept s = length s.value.group_identity_downlink.groups ≡ entries_most
+FullArray K.Downlinks s = length s.groups ≡ entries_most
 
-  pub type3_slot_lem : Slotted generic_type3 (λ e. e.type3) is_type3 type3_option
-  unfolding normal_of
-  type3_slot_lem = field-slot refl (λ g. refl)
+abbrev pub FullArrays : (rs : List Row) → Slots rs → Type 0
+FullArrays [] ss = Unit
+FullArrays (r ∷ rs) ss = FullArray r.kind ss.0 × FullArrays rs ss.1
 
-  pub type4_slot_lem : Slotted generic_type4 (λ e. e.type4) is_type4 type4_option
-  unfolding normal_of
-  type4_slot_lem = field-slot refl (λ g. refl)
+if_held : {A : Type 0} (P : A → Type 0) (p : Bool) (a : A) → (p ≡ true → P a) → IfHeld P (held p a)
+if_held P true a h = h refl
+if_held P false a h = tt
 
-  pub location_demand_slot_lem : Slotted of_location_demand (λ e. e.location_demand) is_location_demand (λ o. location_demand_option (option_map location_demand_normal o))
-  unfolding normal_of
-  location_demand_slot_lem = field-slot refl (λ d. refl)
+full_slot : (k : Kind) (s : Stored k) → FullArray k s → IfHeld (Full k) (held_in k s)
+full_slot K.Type3 s f = if_held (Full K.Type3) s.present s.value (λ e. tt)
+full_slot K.Type4 s f = if_held (Full K.Type4) s.present s.value (λ e. tt)
+full_slot K.LocationDemand s f = if_held (Full K.LocationDemand) s.present s.value (λ e. f)
+full_slot K.LocationAccept s f = if_held (Full K.LocationAccept) s.present s.value (λ e. f)
+full_slot K.Downlinks s f = if_held (Full K.Downlinks) s.present s (λ e. (e, f))
 
-  pub location_accept_slot_lem : Slotted of_location_accept (λ e. e.location_accept) is_location_accept (λ o. location_accept_option (option_map location_accept_normal o))
-  unfolding normal_of
-  location_accept_slot_lem = field-slot refl (λ d. refl)
+pub full_slots : (rs : List Row) (ss : Slots rs) → FullArrays rs ss → FullSlots rs ss
+full_slots [] ss f = tt
+full_slots (r ∷ rs) ss f = (full_slot r.kind ss.0 f.0, full_slots rs ss.1 f.1)
 
-  pub downlinks_slot_lem : (l : OptionalDownlinks)
-      → (held_element (slot_normal (row i of_downlinks) (option_map is_downlinks (list_held downlinks l)))).downlinks ≡ list_normal downlinks l
-  unfolding normal_of list_normal
-  downlinks_slot_lem l = go l.present refl
-    where
-      go : (p : Bool) → l.present ≡ p → (held_element (slot_normal (row i of_downlinks) (option_map is_downlinks (held p l)))).downlinks ≡ list_normal downlinks l
-      go true e = refl
-      go false e = rw e
+-- read back
+slot-back : (r : Row) (o : Option (Value r.kind)) → IfHeld (Full r.kind) o → ((q : Question) → option_all (λ v. kind_asked r.kind v q) o ≡ true)
+    → SlotBack content content_bits element_normal r (option_map (of_kind r.kind) o)
+slot-back r None full y = tt
+slot-back r (Some v) full y = kind_back r.identifier r.kind v full (y fits) (y attached) (y formed) (y short)
 
-  -- ## what was read is its own normal form
+pub slots-back : (rs : List Row) (ss : Slots rs) → FullSlots rs ss → Yes (slots_asked rs ss) → SlotsBack content content_bits element_normal rs (elements_of rs ss)
+unfolding slots_asked
+slots-back [] ss full y = tt
+slots-back (r ∷ rs) ss full y =
+    let test : Question → Bool = λ q. option_all (λ v. kind_asked r.kind v q) (held_in r.kind ss.0) in (
+      slot-back r (held_in r.kind ss.0) full.0 (λ q. (both (test q) _ (y q)).0),
+      slots-back rs ss.1 full.1 (λ q. (both (test q) _ (y q)).1),
+    )
 
-  pub type3-own : Owned (row i generic_type3) (λ e. e.type3) (λ o. type3_option (type3_held o))
-  unfolding normal_of
-  type3-own = field-own refl (λ a. refl)
+-- the slots that are read back are the normal form
+slot-normal : (r : Row) (o : Option (Value r.kind)) → stored_in r.kind (normal_slot element_normal r (option_map (of_kind r.kind) o)) ≡ stored r.kind (option_map (kind_normal r.kind) o)
+unfolding element_normal
+slot-normal r None = rw (value-none r.kind)
+slot-normal r (Some v) = rw (value-of r.kind v) (rw (value-of r.kind (kind_normal r.kind v)))
 
-  pub type4-own : Owned (row i generic_type4) (λ e. e.type4) (λ o. type4_option (type4_held o))
-  unfolding normal_of
-  type4-own = field-own refl (λ a. refl)
+pub slots-normal : (rs : List Row) (ss : Slots rs) → slots_in rs (normal_slots element_normal rs (elements_of rs ss)) ≡ slots_normal rs ss
+unfolding normal_slots slots_normal
+slots-normal [] ss = refl
+slots-normal (r ∷ rs) ss = λ i. (slot-normal r (held_in r.kind ss.0) i, slots-normal rs ss.1 i)
 
-  pub location_demand-own : Owned (row i of_location_demand) (λ e. e.location_demand)
-      (λ o. location_demand_option (option_map location_demand_normal (held o.present o.value)))
-  unfolding normal_of
-  location_demand-own = field-own refl (λ a. refl)
+-- ## what is read
 
-  pub location_accept-own : Owned (row i of_location_accept) (λ e. e.location_accept)
-      (λ o. location_accept_option (option_map location_accept_normal (held o.present o.value)))
-  unfolding normal_of
-  location_accept-own = field-own refl (λ a. refl)
+-- an element that a content gave is of its kind, is its own normal form and has full arrays
+record OfKind (k : Kind) (e : Element) : Type 0 where
+  value : Value k
+  is : of_kind k value ≡ e
+  own : kind_normal k value ≡ value
+  full : Full k value
 
-  pub downlinks-own : Owned (row i of_downlinks) (λ e. e.downlinks) (list_normal downlinks)
-  unfolding normal_of
-  downlinks-own = field-own (absent-own downlinks_sound) (λ a. refl)
+content-of_kind : (r : Row) (n : ℕ) (bs : Bits) (e : Element) (rest : Bits) → content r n bs ≡ got e rest → OfKind r.kind e
+unfolding content
+content-of_kind r n bs e rest q =
+    split-then (kind_content r.kind n bs) _ q (λ v m p t. record { value = v; is = cc; own = kind-own r.kind n bs p; full = kind-full r.kind n bs p })
+
+-- such slots are their own normal form, and have full arrays
+pub record OwnSlots (rs : List Row) (ss : Slots rs) : Type 0 where
+  pub own : slots_normal rs ss ≡ ss
+  pub full : FullSlots rs ss
+
+own_slot : (k : Kind) (o : Option (Value k)) → IfHeld (There k) o → option_map (kind_normal k) o ≡ o
+    → stored k (option_map (kind_normal k) (held_in k (stored k o))) ≡ stored k o
+own_slot k o t e = rw (stored-held k o t, e)
+
+all_own : {rs : List Row} {es : List (Option Element)} → AllSlots (λ r e. OfKind r.kind e) rs es → OwnSlots rs (slots_in rs es)
+unfolding slots_normal
+all_own slots_end = record { own = refl; full = tt }
+all_own (one-slot {s = r} {v = None} h os) =
+    let others = all_own os in
+    rw (value-none r.kind) (record { own = λ i. (own_slot r.kind None tt refl i, others.own i); full = (rw (stored-held r.kind None tt) tt, others.full) })
+all_own (one-slot {s = r} {v = Some e} h os) =
+    let others = all_own os in
+    let there = full_there r.kind h.value h.full in
+    rw (← h.is, value-of r.kind h.value) (record {
+      own = λ i. (own_slot r.kind (Some h.value) there (ap Some h.own) i, others.own i);
+      full = (rw (stored-held r.kind (Some h.value) there) h.full, others.full);
+    })
+
+pub scan_own : (b : Bool) (rs : List Row) (bs : Bits) {x : Counted (List (Option Element))} {rest : Bits} → scan_table identifier_of content b rs bs ≡ got x rest
+    → OwnSlots rs (slots_in rs x.value)
+scan_own b rs bs e = all_own (scan-all identifier_of content content-of_kind _ b rs bs e)
+
+-- where nothing is read
+pub nothing_own : (rs : List Row) → OwnSlots rs (slots_in rs (map (λ r. None) rs))
+unfolding slots_normal
+nothing_own [] = record { own = refl; full = tt }
+nothing_own (r ∷ rs) =
+    let others = nothing_own rs in
+    rw (value-none r.kind) (record { own = λ i. (own_slot r.kind None tt refl i, others.own i); full = (rw (stored-held r.kind None tt) tt, others.full) })
+
+-- ## what is the same
+
+pub slots-same : (rs : List Row) (ss us : Slots rs) → SameSlots rs ss us → slots_normal rs ss ≡ slots_normal rs us
+unfolding slots_normal
+slots-same [] ss us e = refl
+slots-same (r ∷ rs) ss us e =
+    λ i. (stored r.kind (held-same (kind_normal r.kind) (kind-same r.kind) (held_in r.kind ss.0) (held_in r.kind us.0) e.0 i), slots-same rs ss.1 us.1 e.1 i)
+
+slot_normal-same : (k : Kind) (o : Option (Value k)) → IfHeld (Full k) o → ((q : Question) → option_all (λ v. kind_asked k v q) o ≡ true)
+    → SameHeld (SameValue k) o (held_in k (stored k (option_map (kind_normal k) o)))
+slot_normal-same k None full y = rw (stored-held k None tt) tt
+slot_normal-same k (Some v) full y = rw (stored-held k (Some (kind_normal k v)) (normal_there k v full)) (kind_normal-same k v (y fits) full)
+
+pub slots_normal-same : (rs : List Row) (ss : Slots rs) → FullSlots rs ss → Yes (slots_asked rs ss) → SameSlots rs ss (slots_normal rs ss)
+unfolding slots_asked slots_normal
+slots_normal-same [] ss full y = tt
+slots_normal-same (r ∷ rs) ss full y =
+    let test : Question → Bool = λ q. option_all (λ v. kind_asked r.kind v q) (held_in r.kind ss.0) in (
+      slot_normal-same r.kind (held_in r.kind ss.0) full.0 (λ q. (both (test q) _ (y q)).0),
+      slots_normal-same rs ss.1 full.1 (λ q. (both (test q) _ (y q)).1),
+    )

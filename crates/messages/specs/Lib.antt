@@ -1,6 +1,8 @@
 pub mod Format
 pub mod Head
 pub mod Questions
+pub mod Description
+pub mod Type2Elements
 pub mod Demand
 pub mod Accept
 pub mod AttachDetach

@@ -1,15 +1,16 @@
 // D-ATTACH/DETACH GROUP IDENTITY (EN 300 392-2, clause 16.9.2.1).
 ghost use Rattle.std.specs.Prelude.{◌≡◌};
 ghost use Rattle.bits.specs.Placed.{at, as_read};
-ghost use Rattle.elements.specs.Kinds.{identifier_of, content};
-ghost use Rattle.messages.specs.AttachDetach.{attach_detach_head};
-ghost use Rattle.messages.specs.Head.{d_attach_detach_group_identity_type};
-ghost use Rattle.messages.specs.Calls.{of_attach_detach};
-ghost use Rattle.messages.specs.MessageAnswers.{own_attach_detach, attach_detach_from};
+ghost use Rattle.elements.specs.declared.typed_pdu_fields.Kind.TheVariants as K;
+ghost use Rattle.messages.specs.Description.{read_head};
+ghost use Rattle.messages.specs.AttachDetach.{attach_detach, attach_detach_head_of, attach_detach_of};
+ghost use Rattle.messages.specs.Calls.{alone};
+ghost use Rattle.messages.specs.MessageAnswers.{only, slots_from, generics_in, own_kept};
+ghost use Rattle.messages.specs.declared.Message.TheVariants as M;
 
 use crate::d_location_update_accept::DLocationUpdateAccept;
 use crate::u_location_update_demand::ULocationUpdateDemand;
-use crate::{MessageRead, OwnRecord, Pdu, Record, unread};
+use crate::{Headed, MessageRead, OwnRecord, Pdu, Record, unread};
 use bits::bitbuffer::{Cursor, Read};
 use bits::pdu_parse_error::PduParseErr;
 use elements::group_identity_downlink::OptionalDownlinks;
@@ -23,13 +24,12 @@ use elements::typed_pdu_fields::{
     Generic, Kind, NO_GENERICS, OptionalType3, OptionalType4, Row, element_follows, scan_part,
 };
 
-// What stands before the listed elements: the fields up to the O-bit, and the O-bit.
+// What stands before the listed elements, but for the O-bit: the fields.
 #[derive(Clone, Copy)]
 pub struct AttachDetachHead {
     pub group_identity_report: u8,
     pub group_identity_acknowledgement_request: u8,
     pub group_identity_attach_detach_mode: u8,
-    pub obit: u8,
 }
 
 #[repr(C)]
@@ -45,17 +45,19 @@ pub struct DAttachDetachGroupIdentity {
 }
 
 // The type, and the four bits behind it as one field, which is faster (DECISIONS 30): those up to the O-bit, and the O-bit.
-fn read_head(c: Cursor, octets: &[u8]) -> Read<AttachDetachHead>
-    ensures { as_read result ≡ at attach_detach_head octets.now c }
+fn read_head(c: Cursor, octets: &[u8]) -> Read<Headed<AttachDetachHead>>
+    ensures { as_read result ≡ at (read_head attach_detach (λ t. t) attach_detach_head_of) octets.now c }
 {
     let (pdu_type, c1) = c.read::<u8>(octets, 4)?;
     if pdu_type == D_ATTACH_DETACH_GROUP_IDENTITY {
         let (v, c2) = c1.read::<u8>(octets, 4)?;
         return Ok((
-            AttachDetachHead {
-                group_identity_report: v / 8 % 2,
-                group_identity_acknowledgement_request: v / 4 % 2,
-                group_identity_attach_detach_mode: v / 2 % 2,
+            Headed {
+                head: AttachDetachHead {
+                    group_identity_report: v / 8 % 2,
+                    group_identity_acknowledgement_request: v / 4 % 2,
+                    group_identity_attach_detach_mode: v / 2 % 2,
+                },
                 obit: v % 2,
             },
             c2,
@@ -73,7 +75,7 @@ fn record_of(
     before: [Generic; 8],
     behind: [Generic; 8],
 ) -> DAttachDetachGroupIdentity
-    ensures { result ≡ attach_detach_from head list before behind }
+    ensures { result ≡ attach_detach_of head (slots_from attach_detach.table (only K.Downlinks list) (generics_in 2 before behind)) }
 {
     DAttachDetachGroupIdentity {
         group_identity_report: head.group_identity_report,
@@ -109,14 +111,13 @@ static TABLE: [Row; 4] = [
 impl OwnRecord for DAttachDetachGroupIdentity {
     ghost own = { λ r. r.attach_detach };
 
-    ghost of = { of_attach_detach };
+    ghost of = { alone M.AttachDetach };
 
     fn none() -> DAttachDetachGroupIdentity {
         let head = AttachDetachHead {
             group_identity_report: 0,
             group_identity_acknowledgement_request: 0,
             group_identity_attach_detach_mode: 0,
-            obit: 0,
         };
         record_of(head, no_list(), NO_GENERICS, NO_GENERICS)
     }
@@ -131,11 +132,9 @@ impl OwnRecord for DAttachDetachGroupIdentity {
 }
 
 impl Pdu for DAttachDetachGroupIdentity {
-    ghost TYPE = { d_attach_detach_group_identity_type };
+    ghost message = { M.AttachDetach };
 
-    ghost is_own = { own_attach_detach };
-
-    const TYPE: u64 = crate::ATTACH_DETACH;
+    ghost kept = { own_kept M.AttachDetach };
 
     // The message: its head, and behind an O-bit of 1 its listed elements, if there are any.
     fn from_bitbuf(
@@ -154,7 +153,7 @@ impl Pdu for DAttachDetachGroupIdentity {
         if !more {
             return MessageRead {
                 verdict: Ok((0, c2)),
-                record: record_of(head, no_list(), NO_GENERICS, NO_GENERICS),
+                record: record_of(head.head, no_list(), NO_GENERICS, NO_GENERICS),
             };
         }
         let a = scan_part(c2, octets, &TABLE, 0, 2, false, skipping);
@@ -177,7 +176,7 @@ impl Pdu for DAttachDetachGroupIdentity {
         if !further {
             return MessageRead {
                 verdict: Ok((front.skipped, c5)),
-                record: record_of(head, list, before, NO_GENERICS),
+                record: record_of(head.head, list, before, NO_GENERICS),
             };
         }
         let b = scan_part(c4, octets, &TABLE, 3, 4, true, skipping);
@@ -189,7 +188,7 @@ impl Pdu for DAttachDetachGroupIdentity {
         let behind = back.generics;
         MessageRead {
             verdict: Ok((front.skipped + back.skipped, c6)),
-            record: record_of(head, list, before, behind),
+            record: record_of(head.head, list, before, behind),
         }
     }
 }

@@ -1,16 +1,21 @@
 // D-LOCATION UPDATE ACCEPT (EN 300 392-2, clause 16.9.2.7).
 ghost use Rattle.std.specs.Prelude.{◌≡◌, true};
+ghost use Rattle.bits.specs.Reader.{got};
 ghost use Rattle.bits.specs.Placed.{at, as_read};
+ghost use Rattle.elements.specs.Numbers.{u64_of};
+ghost use Rattle.elements.specs.EnergySaving.{saving_option};
 ghost use Rattle.elements.specs.Kinds.{identifier_of, content};
+ghost use Rattle.elements.specs.declared.typed_pdu_fields.Kind.TheVariants as K;
 ghost use Rattle.messages.specs.Format.{body};
-ghost use Rattle.messages.specs.Accept.{accept_options_of, accept_options, no_accept_options, accept_options_if, accept_head};
-ghost use Rattle.messages.specs.Head.{d_location_update_accept_type};
-ghost use Rattle.messages.specs.Calls.{of_accept, accept_format};
-ghost use Rattle.messages.specs.MessageAnswers.{own_accept, accept_from, accept_answer};
+ghost use Rattle.messages.specs.Description.{no_options, read_options, options_behind, read_head};
+ghost use Rattle.messages.specs.Accept.{accept, accept_options_of, accept_head_of, accept_of};
+ghost use Rattle.messages.specs.Calls.{format_of, alone};
+ghost use Rattle.messages.specs.MessageAnswers.{message_answer, only, slots_from, generics_in, own_kept};
+ghost use Rattle.messages.specs.declared.Message.TheVariants as M;
 
 use crate::d_attach_detach_group_identity::DAttachDetachGroupIdentity;
 use crate::u_location_update_demand::ULocationUpdateDemand;
-use crate::{MessageRead, OwnRecord, Pdu, Record, unread};
+use crate::{Headed, MessageRead, OwnRecord, Pdu, Record, unread};
 use bits::bitbuffer::{Cursor, Read};
 use bits::pdu_parse_error::PduParseErr;
 use elements::energy_saving_information::{
@@ -41,11 +46,10 @@ pub struct AcceptOptions {
     pub scch_information_and_distribution_on_18th_frame: OptionalU64,
 }
 
-// What stands before the listed elements: the fields up to the O-bit, the O-bit and the type 2 elements.
+// What stands before the listed elements, but for the O-bit: the fields, and the type 2 elements.
 #[derive(Clone, Copy)]
 pub struct AcceptHead {
     pub location_update_accept_type: u8,
-    pub obit: u8,
     pub options: AcceptOptions,
 }
 
@@ -75,7 +79,7 @@ fn options_of(
     energy_saving: Option<EnergySavingInformation>,
     scch: Option<u64>,
 ) -> AcceptOptions
-    ensures { result ≡ accept_options_of ssi address_extension subscriber_class energy_saving scch }
+    ensures { result ≡ accept_options_of (u64_of ssi, (u64_of address_extension, (u64_of subscriber_class, (saving_option energy_saving, (u64_of scch, tt))))) }
 {
     AcceptOptions {
         ssi: ssi.into(),
@@ -88,7 +92,7 @@ fn options_of(
 
 // SSI, address extension, subscriber class, energy saving information and SCCH information.
 fn read_options(c: Cursor, octets: &[u8]) -> Read<AcceptOptions>
-    ensures { as_read result ≡ at accept_options octets.now c }
+    ensures { as_read result ≡ at (read_options accept.options (λ os. got (accept_options_of os))) octets.now c }
 {
     let (ssi, c1) = parse_type2_generic(c, octets, 24)?;
     let (address_extension, c2) = parse_type2_generic(c1, octets, 24)?;
@@ -108,14 +112,14 @@ fn read_options(c: Cursor, octets: &[u8]) -> Read<AcceptOptions>
 }
 
 fn no_options() -> AcceptOptions
-    ensures { result ≡ no_accept_options }
+    ensures { result ≡ accept_options_of (no_options accept.options) }
 {
     options_of(None, None, None, None, None)
 }
 
 // The type 2 elements behind an O-bit of 1.
 fn read_options_if(c: Cursor, octets: &[u8], more: bool) -> Read<AcceptOptions>
-    ensures { as_read result ≡ at (accept_options_if more) octets.now c }
+    ensures { as_read result ≡ at (options_behind accept.options accept_options_of more) octets.now c }
 {
     if more {
         return read_options(c, octets);
@@ -124,8 +128,8 @@ fn read_options_if(c: Cursor, octets: &[u8], more: bool) -> Read<AcceptOptions>
 }
 
 // The type and the fields up to the O-bit, the O-bit and the type 2 elements.
-fn read_head(c: Cursor, octets: &[u8]) -> Read<AcceptHead>
-    ensures { as_read result ≡ at accept_head octets.now c }
+fn read_head(c: Cursor, octets: &[u8]) -> Read<Headed<AcceptHead>>
+    ensures { as_read result ≡ at (read_head accept accept_options_of accept_head_of) octets.now c }
 {
     let (pdu_type, c1) = c.read::<u8>(octets, 4)?;
     if pdu_type == D_LOCATION_UPDATE_ACCEPT {
@@ -133,10 +137,12 @@ fn read_head(c: Cursor, octets: &[u8]) -> Read<AcceptHead>
         let (obit, c3) = c2.read::<u8>(octets, 1)?;
         let (options, c4) = read_options_if(c3, octets, obit == 1)?;
         return Ok((
-            AcceptHead {
-                location_update_accept_type,
+            Headed {
+                head: AcceptHead {
+                    location_update_accept_type,
+                    options,
+                },
                 obit,
-                options,
             },
             c4,
         ));
@@ -153,7 +159,7 @@ fn record_of(
     before: [Generic; 8],
     behind: [Generic; 8],
 ) -> DLocationUpdateAccept
-    ensures { result ≡ accept_from head location before behind }
+    ensures { result ≡ accept_of head (slots_from accept.table (only K.LocationAccept location) (generics_in 2 before behind)) }
 {
     DLocationUpdateAccept {
         location_update_accept_type: head.location_update_accept_type,
@@ -215,10 +221,10 @@ static TABLE: [Row; 8] = [
 fn read_elements(
     c: Cursor,
     octets: &[u8],
-    head: AcceptHead,
+    head: Headed<AcceptHead>,
     skipping: bool,
 ) -> MessageRead<DLocationUpdateAccept>
-    ensures { result ≡ accept_answer (at (body identifier_of content accept_format skipping head true) octets.now c) }
+    ensures { result ≡ message_answer (λ r. r.accept) (at (body identifier_of content (format_of M.Accept) skipping head true) octets.now c) }
 {
     let a = scan_part(c, octets, &TABLE, 0, 2, false, skipping);
     let v = a.verdict;
@@ -244,7 +250,7 @@ fn read_elements(
     if !further {
         return MessageRead {
             verdict: Ok((front.skipped, c3)),
-            record: record_of(head, location, before, NO_GENERICS),
+            record: record_of(head.head, location, before, NO_GENERICS),
         };
     }
     let b = scan_part(c2, octets, &TABLE, 3, 8, true, skipping);
@@ -256,19 +262,18 @@ fn read_elements(
     let behind = back.generics;
     MessageRead {
         verdict: Ok((front.skipped + back.skipped, c4)),
-        record: record_of(head, location, before, behind),
+        record: record_of(head.head, location, before, behind),
     }
 }
 
 impl OwnRecord for DLocationUpdateAccept {
     ghost own = { λ r. r.accept };
 
-    ghost of = { of_accept };
+    ghost of = { alone M.Accept };
 
     fn none() -> DLocationUpdateAccept {
         let head = AcceptHead {
             location_update_accept_type: 0,
-            obit: 0,
             options: no_options(),
         };
         let none = GroupIdentityLocationAccept::none().optional(false);
@@ -285,11 +290,9 @@ impl OwnRecord for DLocationUpdateAccept {
 }
 
 impl Pdu for DLocationUpdateAccept {
-    ghost TYPE = { d_location_update_accept_type };
+    ghost message = { M.Accept };
 
-    ghost is_own = { own_accept };
-
-    const TYPE: u64 = crate::ACCEPT;
+    ghost kept = { own_kept M.Accept };
 
     // The message: its head, and behind an O-bit of 1 its listed elements, if there are any.
     fn from_bitbuf(c: Cursor, octets: &[u8], skipping: bool) -> MessageRead<DLocationUpdateAccept> {
@@ -307,7 +310,7 @@ impl Pdu for DLocationUpdateAccept {
         let none = GroupIdentityLocationAccept::none().optional(false);
         MessageRead {
             verdict: Ok((0, c2)),
-            record: record_of(head, none, NO_GENERICS, NO_GENERICS),
+            record: record_of(head.head, none, NO_GENERICS, NO_GENERICS),
         }
     }
 }

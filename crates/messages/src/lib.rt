@@ -5,11 +5,12 @@ pub mod d_attach_detach_group_identity;
 pub mod d_location_update_accept;
 pub mod u_location_update_demand;
 
-ghost use Rattle.std.specs.Prelude.{ℕ, ◌≡◌, ◌≤◌};
+ghost use Rattle.std.specs.Prelude.{◌≡◌, ◌≤◌};
 ghost use Rattle.bits.specs.Placed.{halted, at};
-ghost use Rattle.messages.specs.Calls.{no_record, message_of, read_message, Named, good_window, good_call, no_reading, reading, behind, accepted, called};
+ghost use Rattle.messages.specs.Calls.{no_record, message_of, read_message, good_window, good_call, no_reading, reading, behind, accepted, called};
 ghost use Rattle.messages.specs.declared.Record.{Record};
-ghost use Rattle.messages.specs.MessageAnswers.{message_answer, Own};
+ghost use Rattle.messages.specs.declared.Message.{Message};
+ghost use Rattle.messages.specs.MessageAnswers.{message_answer, Kept};
 
 use bits::bitbuffer::{Cursor, Read};
 use bits::pdu_parse_error::PduParseErr;
@@ -36,6 +37,13 @@ pub struct MessageRead<M> {
     pub record: M,
 }
 
+// What stands before a message's listed elements: its fields and type 2 elements, and the O-bit between them.
+#[derive(Clone, Copy)]
+pub struct Headed<H> {
+    pub head: H,
+    pub obit: u8,
+}
+
 // A message's own record.
 pub trait OwnRecord: Copy {
     // how it is taken out of a call's record, and put into one
@@ -54,15 +62,13 @@ pub trait OwnRecord: Copy {
 
 // One of the three messages.
 pub trait Pdu: OwnRecord {
-    ghost TYPE: { ℕ };
-    // Its type number.
-    const TYPE: u64;
+    ghost message: { Message };
 
     // The message at a cursor.
     fn from_bitbuf(c: Cursor, octets: &[u8], skipping: bool) -> MessageRead<Self>
-        ensures { result ≡ message_answer Self.own (at (read_message (message_of TYPE) skipping) octets.now c) };
+        ensures { result ≡ message_answer Self.own (at (read_message message skipping) octets.now c) };
 
-    ghost is_own: { Own (message_of TYPE) Self.own Self.of };
+    ghost kept: { Kept message Self.own Self.of };
 }
 
 pub type Verdict = Result<(), PduParseErr>;
@@ -108,7 +114,7 @@ pub enum Message {
 
 // The message of a type number, if the number is known.
 pub fn message_named(number: u64) -> Option<Message>
-    ensures { Named number result }
+    ensures { result ≡ message_of number }
 {
     match number {
         DEMAND => Some(Message::Demand),
@@ -119,17 +125,17 @@ pub fn message_named(number: u64) -> Option<Message>
 }
 
 // Whether the octets are few enough and the window lies inside them.
-fn is_good_window(octets: usize, c: Cursor) -> bool
+pub fn is_good_window(octets: usize, c: Cursor) -> bool
     ensures { result ≡ good_window octets c.at c.end }
 {
     octets <= OCTETS_MOST && c.at <= c.end && c.end <= 8 * octets
 }
 
-// Question 1.
-pub fn is_good_call(octets: usize, c: Cursor, message: u64, wanted: u64) -> bool
-    ensures { result ≡ good_call message wanted octets c.at c.end }
+// The same, and whether the reading is one of the two.
+pub fn is_good_call(octets: usize, c: Cursor, wanted: u64) -> bool
+    ensures { result ≡ good_call wanted octets c.at c.end }
 {
-    message_named(message).is_some() && wanted <= SKIPPING && is_good_window(octets, c)
+    wanted <= SKIPPING && is_good_window(octets, c)
 }
 
 // A message that is refused.
@@ -171,7 +177,7 @@ fn answered(first: usize, skipped: usize, c: Cursor, held: Record) -> Reading
 
 // A reading call that passed question 1.
 fn read_as<M: Pdu>(octets: &[u8], c: Cursor, skipping: bool) -> Reading
-    ensures { result ≡ called (message_of M.TYPE) skipping octets.now c.at c.end }
+    ensures { result ≡ called M.message skipping octets.now c.at c.end }
 {
     let a = M::from_bitbuf(c, octets, skipping);
     let v = a.verdict;
@@ -187,7 +193,7 @@ pub fn read(octets: &[u8], first: usize, end: usize, message: u64, wanted: u64) 
     ensures { result ≡ reading message wanted octets.now first end }
 {
     let c = Cursor { at: first, end };
-    if is_good_call(octets.len(), c, message, wanted) {
+    if is_good_call(octets.len(), c, wanted) {
         let skipping = wanted == SKIPPING;
         return match message_named(message) {
             Some(Message::Demand) => read_as::<ULocationUpdateDemand>(octets, c, skipping),

@@ -1,16 +1,23 @@
 // U-LOCATION UPDATE DEMAND (EN 300 392-2, clause 16.9.3.4).
-ghost use Rattle.std.specs.Prelude.{◌≡◌, true, option_map};
+ghost use Rattle.std.specs.Prelude.{◌≡◌, true, option_map, get_or};
+ghost use Rattle.bits.specs.Reader.{got};
 ghost use Rattle.bits.specs.Placed.{at, as_read};
+ghost use Rattle.elements.specs.Numbers.{u8_of, u64_of};
+ghost use Rattle.elements.specs.ClassOfMs.{class_option};
 ghost use Rattle.elements.specs.Kinds.{identifier_of, content};
+ghost use Rattle.elements.specs.Rows.{no_generic};
+ghost use Rattle.elements.specs.declared.typed_pdu_fields.Kind.TheVariants as K;
 ghost use Rattle.messages.specs.Format.{body};
-ghost use Rattle.messages.specs.Demand.{halved, demand_options_of, demand_options, no_demand_options, demand_options_if, demand_head};
-ghost use Rattle.messages.specs.Head.{u_location_update_demand_type};
-ghost use Rattle.messages.specs.Calls.{of_demand, demand_format};
-ghost use Rattle.messages.specs.MessageAnswers.{own_demand, demand_from, demand_answer};
+ghost use Rattle.messages.specs.Description.{no_options, read_options, options_behind, read_head};
+ghost use Rattle.messages.specs.Type2Elements.{halved};
+ghost use Rattle.messages.specs.Demand.{demand, demand_options_of, demand_head_of, demand_of};
+ghost use Rattle.messages.specs.Calls.{format_of, alone};
+ghost use Rattle.messages.specs.MessageAnswers.{message_answer, only, slots_from, own_kept};
+ghost use Rattle.messages.specs.declared.Message.TheVariants as M;
 
 use crate::d_attach_detach_group_identity::DAttachDetachGroupIdentity;
 use crate::d_location_update_accept::DLocationUpdateAccept;
-use crate::{MessageRead, OwnRecord, Pdu, Record, unread};
+use crate::{Headed, MessageRead, OwnRecord, Pdu, Record, unread};
 use bits::bitbuffer::{Cursor, Read};
 use bits::pdu_parse_error::PduParseErr;
 use elements::class_of_ms::{ClassOfMs, OptionalClassOfMs, parse_type2_class_of_ms};
@@ -38,7 +45,7 @@ pub struct DemandOptions {
     pub address_extension: OptionalU64,
 }
 
-// What stands before the listed elements: the fields up to the O-bit, the O-bit and the type 2 elements.
+// What stands before the listed elements, but for the O-bit: the fields, and the type 2 elements.
 #[derive(Clone, Copy)]
 pub struct DemandHead {
     pub location_update_type: u8,
@@ -46,7 +53,6 @@ pub struct DemandHead {
     pub cipher_control: u8,
     pub ciphering_parameters: OptionalU64,
     pub options: DemandOptions,
-    pub obit: u8,
 }
 
 #[repr(C)]
@@ -76,7 +82,7 @@ fn options_of(
     ssi: Option<u64>,
     address_extension: Option<u64>,
 ) -> DemandOptions
-    ensures { result ≡ demand_options_of class_of_ms energy_saving_mode (option_map halved la) ssi address_extension }
+    ensures { result ≡ demand_options_of (class_option class_of_ms, (u8_of energy_saving_mode, (u64_of (option_map halved la), (u64_of ssi, (u64_of address_extension, tt))))) }
 {
     DemandOptions {
         class_of_ms: class_of_ms.into(),
@@ -89,7 +95,7 @@ fn options_of(
 
 // Class of MS, energy saving mode, LA, SSI and address extension.
 fn read_options(c: Cursor, octets: &[u8]) -> Read<DemandOptions>
-    ensures { as_read result ≡ at demand_options octets.now c }
+    ensures { as_read result ≡ at (read_options demand.options (λ os. got (demand_options_of os))) octets.now c }
 {
     let (class_of_ms, c1) = parse_type2_class_of_ms(c, octets)?;
     let (energy_saving_mode, c2) = parse_type2_generic(c1, octets, 3)?;
@@ -103,14 +109,14 @@ fn read_options(c: Cursor, octets: &[u8]) -> Read<DemandOptions>
 }
 
 fn no_options() -> DemandOptions
-    ensures { result ≡ no_demand_options }
+    ensures { result ≡ demand_options_of (no_options demand.options) }
 {
     options_of(None, None, None, None, None)
 }
 
 // The type 2 elements behind an O-bit of 1.
 fn read_options_if(c: Cursor, octets: &[u8], more: bool) -> Read<DemandOptions>
-    ensures { as_read result ≡ at (demand_options_if more) octets.now c }
+    ensures { as_read result ≡ at (options_behind demand.options demand_options_of more) octets.now c }
 {
     if more {
         return read_options(c, octets);
@@ -119,8 +125,8 @@ fn read_options_if(c: Cursor, octets: &[u8], more: bool) -> Read<DemandOptions>
 }
 
 // The type and the fields up to the O-bit, the O-bit and the type 2 elements.
-fn read_head(c: Cursor, octets: &[u8]) -> Read<DemandHead>
-    ensures { as_read result ≡ at demand_head octets.now c }
+fn read_head(c: Cursor, octets: &[u8]) -> Read<Headed<DemandHead>>
+    ensures { as_read result ≡ at (read_head demand demand_options_of demand_head_of) octets.now c }
 {
     let (pdu_type, c1) = c.read::<u8>(octets, 4)?;
     if pdu_type == U_LOCATION_UPDATE_DEMAND {
@@ -131,13 +137,15 @@ fn read_head(c: Cursor, octets: &[u8]) -> Read<DemandHead>
         let (obit, c6) = c5.read::<u8>(octets, 1)?;
         let (options, c7) = read_options_if(c6, octets, obit == 1)?;
         return Ok((
-            DemandHead {
-                location_update_type,
-                request_to_append_la,
-                cipher_control,
-                ciphering_parameters: ciphering.into(),
+            Headed {
+                head: DemandHead {
+                    location_update_type,
+                    request_to_append_la,
+                    cipher_control,
+                    ciphering_parameters: ciphering.into(),
+                    options,
+                },
                 obit,
-                options,
             },
             c7,
         ));
@@ -153,7 +161,7 @@ fn record_of(
     location: OptionalLocationDemand,
     generics: [Generic; 8],
 ) -> ULocationUpdateDemand
-    ensures { result ≡ demand_from head location generics }
+    ensures { result ≡ demand_of head (slots_from demand.table (only K.LocationDemand location) (λ i. get_or generics i no_generic)) }
 {
     ULocationUpdateDemand {
         location_update_type: head.location_update_type,
@@ -201,10 +209,10 @@ static TABLE: [Row; 5] = [
 fn read_elements(
     c: Cursor,
     octets: &[u8],
-    head: DemandHead,
+    head: Headed<DemandHead>,
     skipping: bool,
 ) -> MessageRead<ULocationUpdateDemand>
-    ensures { result ≡ demand_answer (at (body identifier_of content demand_format skipping head true) octets.now c) }
+    ensures { result ≡ message_answer (λ r. r.demand) (at (body identifier_of content (format_of M.Demand) skipping head true) octets.now c) }
 {
     let s = skip_if(c, octets, &TABLE, skipping);
     let Ok((n, c1)) = s else {
@@ -227,7 +235,7 @@ fn read_elements(
     if !further {
         return MessageRead {
             verdict: Ok((n, c3)),
-            record: record_of(head, location, NO_GENERICS),
+            record: record_of(head.head, location, NO_GENERICS),
         };
     }
     let b = scan_part(c2, octets, &TABLE, 1, 5, true, skipping);
@@ -239,14 +247,14 @@ fn read_elements(
     let generics = back.generics;
     MessageRead {
         verdict: Ok((n + back.skipped, c4)),
-        record: record_of(head, location, generics),
+        record: record_of(head.head, location, generics),
     }
 }
 
 impl OwnRecord for ULocationUpdateDemand {
     ghost own = { λ r. r.demand };
 
-    ghost of = { of_demand };
+    ghost of = { alone M.Demand };
 
     fn none() -> ULocationUpdateDemand {
         let head = DemandHead {
@@ -254,7 +262,6 @@ impl OwnRecord for ULocationUpdateDemand {
             request_to_append_la: 0,
             cipher_control: 0,
             ciphering_parameters: NO_NUMBER,
-            obit: 0,
             options: no_options(),
         };
         let none = GroupIdentityLocationDemand::none().optional(false);
@@ -271,11 +278,9 @@ impl OwnRecord for ULocationUpdateDemand {
 }
 
 impl Pdu for ULocationUpdateDemand {
-    ghost TYPE = { u_location_update_demand_type };
+    ghost message = { M.Demand };
 
-    ghost is_own = { own_demand };
-
-    const TYPE: u64 = crate::DEMAND;
+    ghost kept = { own_kept M.Demand };
 
     // The message: its head, and behind an O-bit of 1 its listed elements, if there are any.
     fn from_bitbuf(c: Cursor, octets: &[u8], skipping: bool) -> MessageRead<ULocationUpdateDemand> {
@@ -293,7 +298,7 @@ impl Pdu for ULocationUpdateDemand {
         let none = GroupIdentityLocationDemand::none().optional(false);
         MessageRead {
             verdict: Ok((0, c2)),
-            record: record_of(head, none, NO_GENERICS),
+            record: record_of(head.head, none, NO_GENERICS),
         }
     }
 }

@@ -12,7 +12,7 @@ use elements::group_identity_uplink::OptionalUplinks;
 use messages::d_attach_detach_group_identity::DAttachDetachGroupIdentity;
 use messages::d_location_update_accept::DLocationUpdateAccept;
 use messages::u_location_update_demand::ULocationUpdateDemand;
-use messages::{OwnRecord, Pdu};
+use messages::{ACCEPT, ATTACH_DETACH, DEMAND, OwnRecord, Pdu};
 use std::io;
 
 pub(crate) type Demand = ULocationUpdateDemand;
@@ -23,8 +23,10 @@ pub(crate) type AttachDetach = DAttachDetachGroupIdentity;
 
 // One of the three messages, as it is tried.
 pub(crate) trait Message: Pdu {
-    // Its name on the lines.
+    // Its name on the lines, and its type number.
     const NAME: &'static str;
+
+    const TYPE: u64;
 
     // The record to start from.
     fn start() -> Self;
@@ -32,6 +34,8 @@ pub(crate) trait Message: Pdu {
 
 impl Message for ULocationUpdateDemand {
     const NAME: &'static str = "demand";
+
+    const TYPE: u64 = DEMAND;
 
     fn start() -> Demand {
         Demand {
@@ -44,6 +48,8 @@ impl Message for ULocationUpdateDemand {
 impl Message for DLocationUpdateAccept {
     const NAME: &'static str = "accept";
 
+    const TYPE: u64 = ACCEPT;
+
     fn start() -> Accept {
         Accept {
             location_update_accept_type: 3,
@@ -54,6 +60,8 @@ impl Message for DLocationUpdateAccept {
 
 impl Message for DAttachDetachGroupIdentity {
     const NAME: &'static str = "attach/detach";
+
+    const TYPE: u64 = ATTACH_DETACH;
 
     fn start() -> AttachDetach {
         AttachDetach {

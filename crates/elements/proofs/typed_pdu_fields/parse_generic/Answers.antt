@@ -5,8 +5,7 @@ use Rattle.bits.specs.Reader.{got, ◌>>=◌}
 use Rattle.bits.specs.PlacedLaws.{so, from}
 use Rattle.bits.specs.PlacedTimes.{alike}
 use Rattle.elements.specs.Generics.{type3, type4}
-use Rattle.elements.specs.Kinds.{is_type3, content_of, content}
-use Rattle.elements.specs.Kinds.{is_type4 as is_type4_element}
+use Rattle.elements.specs.Kinds.{of_kind, content, stored_in}
 use Rattle.elements.specs.Rows.{sized, from_type3, from_type4, generic_type3_at, generic_type4_at, is_type4, generic_row, generic_in, generic_content}
 use Rattle.elements.proofs.PlacedTable.{sized-made}
 use Rattle.elements.specs.declared.typed_pdu_fields.Kind.{Kind}
@@ -23,12 +22,12 @@ other_kind K.Downlinks h = refl
 
 module _ (r : Row) where
   of_type4 : is_type4 r.kind ≡ true → (bs : Bits) → (sized (content (generic_row r)) >>= λ a. got (generic_in r (Some a))) bs ≡ sized generic_type4_at bs
-  unfolding content_of
-  of_type4 t bs = rw t (sized-made type4 is_type4_element (λ a. from_type4 a.type4) bs)
+  unfolding content
+  of_type4 t bs = rw t (sized-made type4 (of_kind K.Type4) (λ a. from_type4 (stored_in K.Type4 (Some a))) bs)
 
   of_type3 : is_type4 r.kind ≡ false → (bs : Bits) → (sized (content (generic_row r)) >>= λ a. got (generic_in r (Some a))) bs ≡ sized generic_type3_at bs
-  unfolding content_of
-  of_type3 t bs = rw t (sized-made type3 is_type3 (λ a. from_type3 a.type3) bs)
+  unfolding content
+  of_type3 t bs = rw t (sized-made type3 (of_kind K.Type3) (λ a. from_type3 (stored_in K.Type3 (Some a))) bs)
 
 pub returns-in-Type4 : goal.returns-in-Type4
 unfolding generic_content

@@ -9,7 +9,7 @@ use Rattle.elements.proofs.PlacedTable.{skip-most, filled, resumed_end, resumed_
 use Rattle.elements.proofs.PlacedPart.{slot_unseen, Looked, reached, empty-behind, own-refused, own-read, own-on, empty-on}
 use Rattle.elements.specs.Table.{is_listed}
 use Rattle.elements.specs.Kinds.{identifier_of}
-use Rattle.elements.specs.Rows.{rows_of, no_generics, opened_by}
+use Rattle.elements.specs.Rows.{no_generics, opened_by}
 use Rattle.elements.proofs.Parts.{behind-most, no_slots_lem, no_behind, part-read}
 use Rattle.elements.specs.Answers.{slots_answer}
 use Rattle.elements.proofs.Tables.{next-row, no-more_rows, slots-few}
@@ -20,17 +20,17 @@ use Rattle.elements.proofs.typed_pdu_fields.scan_part.Goals.{After-loop-i, After
 all_slots : (c : After-loop-i)
     → let a = c.args in
     let l = c.loop-i in
-    Gives (filled (rows_of a.table.now) a.wanted no_generics a.from c.part_of-slots.result.now) a.octets.now a.c
+    Gives (filled a.table.now a.wanted no_generics a.from c.part_of-slots.result.now) a.octets.now a.c
     (placed (record { skipped = l.n; generics = l.generics }) l.place)
 all_slots c =
     let l = c.loop-i in
-    by (sym l.invariant.same) (resumed_end (rows_of c.args.table.now) c.args.wanted l.generics (c.args.from + l.i) l.n (no-more_rows _ _ c.loop-i-test.false)).eq
+    by (sym l.invariant.same) (resumed_end c.args.table.now c.args.wanted l.generics (c.args.from + l.i) l.n (no-more_rows _ _ c.loop-i-test.false)).eq
 
 -- the look at an element
 looked : (c : After-slots_before-i)
     → let a = c.args in
     let l = c.loop-i in
-    Looked (rows_of a.table.now) a.wanted a.octets.now l.place c.in-Ok.c1 c.in-Ok-l.c2 c.in-Ok.m c.in-Ok-l.id c.part_of-slots.result.now l.generics a.from l.i c.slots_before-i.result
+    Looked a.table.now a.wanted a.octets.now l.place c.in-Ok.c1 c.in-Ok-l.c2 c.in-Ok.m c.in-Ok-l.id c.part_of-slots.result.now l.generics a.from l.i c.slots_before-i.result
 looked c =
     let l = c.loop-i in
     let slots = c.part_of-slots.result.now in
@@ -54,7 +54,7 @@ returns-in_default-l c =
 
 pub overflow_add-n : goal.overflow_add-n
 overflow_add-n c =
-    let m = skip-most (is_listed identifier_of (rows_of c.args.table.now)) c.args.wanted (from c.in-Ok.ensures) in
+    let m = skip-most (is_listed identifier_of c.args.table.now) c.args.wanted (from c.in-Ok.ensures) in
     grind (arith, c.loop-i.invariant.few)
 
 pub overflow_add-i : goal.overflow_add-i
@@ -74,7 +74,7 @@ pub loop-i-preserved-then-i-slots : goal.loop-i-preserved-then-i-slots
 loop-i-preserved-then-i-slots c =
     let l = c.loop-i in
     let x = looked ((goal.at.loop-i-preserved-then-i-slots c).After-slots_before-i) in
-    let m = skip-most (is_listed identifier_of (rows_of c.args.table.now)) c.args.wanted x.skipped in
+    let m = skip-most (is_listed identifier_of c.args.table.now) c.args.wanted x.skipped in
     let on = own-on _ _ x c.if-i-slots.true (from c.in-Ok-g.ensures) in
     record {
       few = omega (arith, l.invariant.few);
@@ -86,7 +86,7 @@ pub loop-i-preserved : goal.loop-i-preserved
 loop-i-preserved c =
     let l = c.loop-i in
     let x = looked ((goal.at.loop-i-preserved c).After-slots_before-i) in
-    let m = skip-most (is_listed identifier_of (rows_of c.args.table.now)) c.args.wanted x.skipped in
+    let m = skip-most (is_listed identifier_of c.args.table.now) c.args.wanted x.skipped in
     record { few = omega (arith, l.invariant.few); empty = empty-behind _ _ x; same = l.invariant.same ∙ reached _ _ x l.n }
 
 pub returns-in_default-b : goal.returns-in_default-b
@@ -96,7 +96,7 @@ returns-in_default-b c =
 
 pub overflow_add-result : goal.overflow_add-result
 overflow_add-result c =
-    let back = behind-most (rows_of c.args.table.now) c.args.wanted c.args.last (from c.in-Ok-b.ensures) in
+    let back = behind-most c.args.table.now c.args.wanted c.args.last (from c.in-Ok-b.ensures) in
     grind (arith, c.loop-i.invariant.few)
 
 pub returns : goal.returns

@@ -3,7 +3,7 @@
 use Rattle.std.specs.Prelude.{◌+◌, ◌-◌, ◌≤◌, ◌≡◌, length, drop}
 use Rattle.bits.specs.Placed.{at}
 use Rattle.elements.proofs.PlacedTable.{filled, resumed}
-use Rattle.elements.specs.Rows.{rows_of, no_generics}
+use Rattle.elements.specs.Rows.{no_generics}
 use Rattle.elements.proofs.typed_pdu_fields.scan_part.Given as goal
 
 abbrev pub invariant-loop-i : goal.invariant-loop-i
@@ -11,8 +11,8 @@ invariant-loop-i l =
     record {
       few : l.n ≤ l.place.at;
       empty : drop (l.from + l.i) l.generics ≡ drop (l.from + l.i) no_generics;
-      same : at (filled (rows_of l.table) l.wanted l.initial.generics l.from l.slots) l.octets l.initial.place
-          ≡ at (resumed (rows_of l.table) l.wanted l.generics (l.from + l.i) l.n (drop l.i l.slots)) l.octets l.place;
+      same : at (filled l.table l.wanted l.initial.generics l.from l.slots) l.octets l.initial.place
+          ≡ at (resumed l.table l.wanted l.generics (l.from + l.i) l.n (drop l.i l.slots)) l.octets l.place;
     }
 
 abbrev pub decreases-loop-i : goal.decreases-loop-i

@@ -8,7 +8,7 @@ use Rattle.message_writers.proofs.group_identity_location_accept.write_location_
 
 -- up to the O-bit
 abbrev front : After-then-front → Fact
-front c = fact (front-held 5 _ _ _ (c.element_header-h.ensures ▹ c.then-b.ensures ▹ c.then-front.ensures))
+front c = fact (front-held _ _ _ _ (c.element_header-h.ensures ▹ c.then-b.ensures ▹ c.then-front.ensures))
 
 pub write_nested-requires : goal.write_nested-requires
 write_nested-requires c = (front ((goal.at.write_nested-requires c).After-then-front)).holds.0

@@ -13,7 +13,7 @@ returns-then-listed g c =
     let a = c.args in
     nested-there g.L.GroupList.kind (group_parts k.bits k.forms k.attachment k.detachment k.address) k.IDENTIFIER (bits_in a.front) a.size a.list.now (sym c.presence-listed.ensures ∙ c.if-listed.true)
     (field (behind (rw c.presence-listed.ensures at c.then.ensures)) (flag_fits a.front _ c.requires) c.put-c1.ensures)
-    c.write_list-c2.ensures c.write_closing_mbit.ensures
+    (rw c.IDENTIFIER.ensures at c.write_list-c2.ensures) c.write_closing_mbit.ensures
 
 pub returns : goal.returns
 returns g c =

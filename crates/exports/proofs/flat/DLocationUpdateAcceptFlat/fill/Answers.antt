@@ -3,7 +3,8 @@ use native.Mathlib.Omega.{arith}
 use mathlib.Core.Bool.{◌&&◌}
 use mathlib.Core.Path.{refl, sym}
 use Rattle.elements.specs.Lists.{each}
-use Rattle.messages.specs.Calls.{accept, of_accept}
+use Rattle.messages.specs.Calls.{alone}
+use Rattle.messages.specs.declared.Message.TheVariants as M
 use Rattle.exports.specs.Flat.{flat_downlink, flat_accept}
 use Rattle.exports.specs.FlatLaws.{◌⨟◌, length-shown}
 use Rattle.exports.specs.FlatLengths.{no-room, room}
@@ -12,7 +13,7 @@ use Rattle.exports.proofs.flat.DLocationUpdateAcceptFlat.fill.Goals as goal
 pub returns-then-flat-groups : goal.returns-then-flat-groups
 returns-then-flat-groups c =
     let a = c.args in
-    let no = no-room accept a.skipped (of_accept a.«self») a.flat.now c.shown_of-groups.ensures (omega arith) in
+    let no = no-room M.Accept a.skipped (alone M.Accept a.«self») a.flat.now c.shown_of-groups.ensures (omega arith) in
     record { fits = sym no; buffer = rw no }
 
 pub put_accept_generics-requires : goal.put_accept_generics-requires
@@ -27,6 +28,6 @@ pub returns : goal.returns
 unfolding flat_accept
 returns c =
     let a = c.args in
-    let yes = room accept a.skipped (of_accept a.«self») a.flat.now c.shown_of-groups.ensures (omega arith) in
+    let yes = room M.Accept a.skipped (alone M.Accept a.«self») a.flat.now c.shown_of-groups.ensures (omega arith) in
     let parts = c.put_accept_head-a.ensures ⨟ c.put_accept_front-b.ensures ⨟ c.put_location_accept-d.ensures ⨟ c.put_accept_generics.ensures in
     record { fits = sym yes; buffer = rw yes parts.octets }

@@ -4,7 +4,8 @@ use mathlib.Core.Bool.{◌&&◌}
 use mathlib.Core.Path.{refl, sym}
 use borrow.Author.Rules.{rules}
 use Rattle.elements.specs.Lists.{each}
-use Rattle.messages.specs.Calls.{demand, of_demand}
+use Rattle.messages.specs.Calls.{alone}
+use Rattle.messages.specs.declared.Message.TheVariants as M
 use Rattle.exports.specs.Flat.{flat_uplink, flat_demand}
 use Rattle.exports.specs.FlatLaws.{◌⨟◌, length-shown}
 use Rattle.exports.specs.FlatLengths.{no-room, room}
@@ -13,7 +14,7 @@ use Rattle.exports.proofs.flat.ULocationUpdateDemandFlat.fill.Goals as goal
 pub returns-then-flat-groups : goal.returns-then-flat-groups
 returns-then-flat-groups c =
     let a = c.args in
-    let no = no-room demand a.skipped (of_demand a.«self») a.flat.now c.shown_of-groups.ensures (omega arith) in
+    let no = no-room M.Demand a.skipped (alone M.Demand a.«self») a.flat.now c.shown_of-groups.ensures (omega arith) in
     record { fits = sym no; buffer = rw no }
 
 pub put_demand_options-d-requires : goal.put_demand_options-d-requires
@@ -36,6 +37,6 @@ pub returns : goal.returns
 unfolding flat_demand
 returns c =
     let a = c.args in
-    let yes = room demand a.skipped (of_demand a.«self») a.flat.now c.shown_of-groups.ensures (omega arith) in
+    let yes = room M.Demand a.skipped (alone M.Demand a.«self») a.flat.now c.shown_of-groups.ensures (omega arith) in
     let parts = c.put_demand_head-a.ensures ⨟ c.put_class-b.ensures ⨟ c.put_demand_options-d.ensures ⨟ c.put_location_demand-e.ensures ⨟ c.put_demand_generics.ensures in
     record { fits = sym yes; buffer = rw yes parts.octets }

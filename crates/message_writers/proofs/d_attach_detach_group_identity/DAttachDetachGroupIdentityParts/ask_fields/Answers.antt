@@ -1,0 +1,16 @@
+-- `message_writers::d_attach_detach_group_identity::DAttachDetachGroupIdentityParts::ask_fields` meets its contract. Assumes nothing.
+use Rattle.std.proofs.Common.{arith}
+use Rattle.std.proofs.Math.Bool.{and-true}
+use Rattle.messages.specs.Description.{fields_asked}
+use Rattle.messages.specs.AttachDetach.{attach_detach, attach_detach_tie}
+use Rattle.message_writers.specs.Parts.{fields_size}
+use Rattle.message_writers.proofs.PartsLaws.{fields_are}
+use Rattle.message_writers.proofs.d_attach_detach_group_identity.DAttachDetachGroupIdentityParts.ask_fields.Goals as goal
+
+pub returns : goal.returns
+unfolding fields_asked fields_size
+returns c = (
+  rw (c.within.ensures, c.within-2.ensures, c.within-3.ensures)
+      (fields_are attach_detach (attach_detach_tie.values c.args.«self».now).fields (simp and-true) (simp and-true) (omega arith)),
+  omega arith,
+)

@@ -1,0 +1,10 @@
+-- `message_writers::d_location_update_accept::class_saving_and_scch` meets its contract. Assumes nothing.
+use Rattle.bits.specs.DigitsLaws.{no_digits, ◌▹◌}
+use Rattle.std.proofs.Common.{append-nil, append_assoc}
+use Rattle.messages.specs.Description.{options_bits}
+use Rattle.message_writers.proofs.PartsLaws.{holds-as}
+use Rattle.message_writers.proofs.d_location_update_accept.class_saving_and_scch.Goals as goal
+
+pub returns : goal.returns
+unfolding options_bits
+returns c = holds-as (no_digits ▹ c.then_type2-k.ensures ▹ c.then_saving-s.ensures ▹ c.then_type2.ensures) (simp (append_assoc, append-nil))

@@ -1,7 +1,0 @@
--- `message_writers::d_location_update_accept::options_fit` meets its contract. Assumes nothing.
-use mathlib.Core.Bool.{and-true}
-use Rattle.message_writers.proofs.d_location_update_accept.options_fit.Goals as goal
-
-pub returns : goal.returns
-returns c =
-    rw (c.ask_type2.ensures, c.ask_type2-2.ensures, c.ask_type2-3.ensures, c.ask_type2-4.ensures, and-true _)
