@@ -1,12 +1,13 @@
 -- Laws of the kinds of outer elements: local, of their declared length, read back, and their own normal form when read.
-use Rattle.std.specs.Prelude.{ℕ, ◌^◌, ◌≤◌, ◌<◌, ◌≡◌, refl, Bool, true, ◌++◌, length, leb}
+use Rattle.std.specs.Prelude.{ℕ, ◌^◌, ◌≤◌, ◌<◌, ◌≡◌, refl, Bool, true, ◌++◌, length, leb, option_map, Option, None, Some}
 use Rattle.std.proofs.Common.{arith, length-append, leb-true, ltb-true}
 use Rattle.bits.specs.Bits.{Bits, digits}
 use Rattle.bits.specs.BitsLaws.{length_digits}
 use Rattle.bits.specs.Reader.{Reader, got, Local}
 use Rattle.bits.specs.ReaderLaws.{got-local, bind_local, Passes, got-passes, bind_passes}
 use Rattle.elements.specs.Table.{length_width}
-use Rattle.elements.proofs.TableBack.{Back}
+use Rattle.elements.specs.Numbers.{option_all, held}
+use Rattle.elements.proofs.TableBack.{Back, SlotBack}
 use Rattle.elements.proofs.NumbersLaws.{both}
 use Rattle.elements.specs.Generics.{data_width, entries_width, type3_bits, type4_bits, type3_fits, type4_fits}
 use Rattle.elements.proofs.GenericsLaws.{type3-local, type4-local, type3-passes, type4-passes, type3-back, type4-back}
@@ -14,7 +15,9 @@ use Rattle.elements.specs.Lists.{entries_most, length_fits, Groups, list_one, li
 use Rattle.elements.proofs.ListsLaws.{downlinks_sound, list-local, list-passes, list_back, list-own, list_same, list_normal-same}
 use Rattle.elements.specs.Locations.{lengths_fit}
 use Rattle.elements.proofs.LocationsLaws.{Structure, demand_laws, accept_laws}
-use Rattle.elements.specs.Kinds.{row, Value, kind_content, kind_fits, kind_one, kind_listed, kind_short, kind_normal, SameValue, of_kind, content, content_bits, element_normal}
+use Rattle.elements.specs.Kinds.{row, Value, kind_content, kind_fits, kind_one, kind_listed, kind_short, kind_normal, SameValue, of_kind, content, content_bits, element_normal, Stored, held_in, slot_of}
+use Rattle.elements.specs.declared.group_identity_location_demand.OptionalLocationDemand.{OptionalLocationDemand}
+use Rattle.elements.specs.declared.group_identity_location_accept.OptionalLocationAccept.{OptionalLocationAccept}
 use Rattle.elements.specs.declared.typed_pdu_fields.Kind.{Kind}
 use Rattle.elements.specs.declared.typed_pdu_fields.Kind.TheVariants as K
 use Rattle.elements.specs.declared.typed_pdu_fields.Row.{Row}
@@ -117,3 +120,27 @@ kind_back i K.Type4 v full f o l h = record { short = type4-short v f; reads = �
 kind_back i K.LocationDemand v full f o l h = let b = structure-back demand_laws v full f o l h in record { short = b.short; reads = λ rest. rw (b.reads rest) }
 kind_back i K.LocationAccept v full f o l h = let b = structure-back accept_laws v full f o l h in record { short = b.short; reads = λ rest. rw (b.reads rest) }
 kind_back i K.Downlinks v full f o l h = record { short = ltb-true _ _ h; reads = λ rest. rw (list_back downlinks_sound v full.0 full.1 f o l rest) }
+
+-- what holds of a value, where one is held
+abbrev pub IfHeld : {A : Type 0} → (A → Type 0) → Option A → Type 0
+IfHeld P None = Unit
+IfHeld P (Some a) = P a
+
+-- A SLOT IS READ BACK, of an element that may be absent
+pub slot-back : (i : ℕ) (k : Kind) (o : Option (Value k)) → IfHeld (Full k) o → option_all (kind_fits k) o ≡ true → option_all (kind_one k) o ≡ true
+    → option_all (kind_listed k) o ≡ true → option_all (kind_short k) o ≡ true → SlotBack content content_bits element_normal (row i k) (option_map (of_kind k) o)
+slot-back i k None full f o l h = tt
+slot-back i k (Some v) full f o l h = kind_back i k v full f o l h
+
+-- and so the slots of the two structures
+abbrev pub StructureSlotBack : (k : Kind) → (i : ℕ) → Stored k → Type 0
+StructureSlotBack k i s =
+    IfHeld (Full k) (held_in k s) → option_all (kind_fits k) (held_in k s) ≡ true → option_all (kind_one k) (held_in k s) ≡ true
+    → option_all (kind_listed k) (held_in k s) ≡ true → option_all (kind_short k) (held_in k s) ≡ true
+    → SlotBack content content_bits element_normal (row i k) (slot_of k s)
+
+pub location_demand_slot-back : (i : ℕ) (o : OptionalLocationDemand) → StructureSlotBack K.LocationDemand i o
+location_demand_slot-back i o = slot-back i K.LocationDemand (held o.present o.value)
+
+pub location_accept_slot-back : (i : ℕ) (o : OptionalLocationAccept) → StructureSlotBack K.LocationAccept i o
+location_accept_slot-back i o = slot-back i K.LocationAccept (held o.present o.value)

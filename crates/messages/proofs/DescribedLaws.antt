@@ -13,30 +13,25 @@ use Rattle.messages.specs.Head.{pdu_type_width, any_present}
 use Rattle.messages.specs.Format.{message}
 use Rattle.messages.proofs.FormatLaws.{message-made, format_back}
 use Rattle.messages.proofs.Demand3.{RegularHead}
-use Rattle.messages.specs.Questions.{Question}
+use Rattle.messages.specs.Questions.{Question, fits}
 use Rattle.messages.specs.Description.{Description, Fields, Options, Slots, Values, elements_of, any_option, slots_bits, more, bits, fields_asked, options_asked, slots_asked, asked, fields_normal, options_normal, normal, Same, Tie, made}
 use Rattle.messages.specs.Calls.{format_by}
-use Rattle.messages.proofs.DescriptionLaws.{Yes, AllSound, head-local, layout-local, head_follows}
+use Rattle.messages.proofs.DescriptionLaws.{of_reading, Readable, AllSound, head-local, layout-local, head_follows}
 use Rattle.messages.proofs.DescriptionBack.{head-back, head-read, fields-same, fields_normal-same, options-same, options_normal-same}
 use Rattle.messages.proofs.SlotsLaws.{FullSlots, slots-back, slots-normal, OwnSlots, scan_own, nothing_own, slots-same, slots_normal-same}
 
--- the answers about the parts of a message
-record YesOfParts (d : Description) (m : Values d) : Type 0 where
-  fields : Yes (fields_asked d.fields m.fields)
-  options : Yes (options_asked d.options m.options)
-  slots : Yes (slots_asked d.table m.slots)
+-- a question that a message answers with yes, each of its parts does
+record YesOfParts (d : Description) (m : Values d) (q : Question) : Type 0 where
+  fields : fields_asked d.fields m.fields q ≡ true
+  options : options_asked d.options m.options q ≡ true
+  slots : slots_asked d.table m.slots q ≡ true
 
-yes-of_parts : (d : Description) (m : Values d) → Yes (asked d m) → YesOfParts d m
+yes-of_parts : (d : Description) (m : Values d) (q : Question) → asked d m q ≡ true → YesOfParts d m q
 unfolding asked
-yes-of_parts d m y =
-    let f = λ (q : Question). fields_asked d.fields m.fields q in
-    let o = λ (q : Question). options_asked d.options m.options q in
-    let s = λ (q : Question). slots_asked d.table m.slots q in
-    record {
-      fields = λ q. (both (f q) _ (y q)).0;
-      options = λ q. (both (o q) (s q) (both (f q) _ (y q)).1).0;
-      slots = λ q. (both (o q) (s q) (both (f q) _ (y q)).1).1;
-    }
+yes-of_parts d m q y =
+    let parts = both (fields_asked d.fields m.fields q) _ y in
+    let others = both (options_asked d.options m.options q) (slots_asked d.table m.slots q) parts.1 in
+    record { fields = parts.0; options = others.0; slots = others.1 }
 
 module _ (d : Description) (s : AllSound d.options) where
   -- RECORDS THAT ARE THE SAME have one normal form
@@ -47,12 +42,12 @@ module _ (d : Description) (s : AllSound d.options) where
     slots = slots-same d.table m.slots n.slots e.slots i;
   }
 
-  -- A RECORD IS THE SAME as its normal form
-  pub normal_same : (m : Values d) → FullSlots d.table m.slots → Yes (asked d m) → Same d m (normal d m)
+  -- A RECORD that passes question 8 IS THE SAME as its normal form
+  pub normal_same : (m : Values d) → FullSlots d.table m.slots → asked d m fits ≡ true → Same d m (normal d m)
   normal_same m full y = record {
     fields = fields_normal-same d.fields m.fields;
     options = options_normal-same d.options s m.options;
-    slots = slots_normal-same d.table m.slots full (yes-of_parts d m y).slots;
+    slots = slots_normal-same d.table m.slots full (yes-of_parts d m fits y).slots;
   }
 
   -- a record T of the code is made of the values, and V holds it and tells the values again
@@ -74,14 +69,14 @@ module _ (d : Description) (s : AllSound d.options) where
     slots-none m e = (neither (any_option d.options m.options) _ e).1
 
     -- WHAT WAS WRITTEN IS READ BACK, in normal form
-    pub values-back : in_width pdu_type_width d.type ≡ true → distinct identifier_of d.table ≡ true → (m : Values d) → FullSlots d.table m.slots → Yes (asked d m)
+    pub values-back : in_width pdu_type_width d.type ≡ true → distinct identifier_of d.table ≡ true → (m : Values d) → FullSlots d.table m.slots → Readable (asked d m)
         → (rest : Bits) → message identifier_of content (format_by d t hold) false (bits d m ++ rest) ≡ got (counted 0 (hold (made t (normal d m)))) rest
     unfolding bits
     values-back w apart m full y rest =
-        let ys = yes-of_parts d m y in
-        format_back identifier_of content content_bits element_normal (format_by d t hold) apart (elements_of d.table m.slots) (slots-back d.table m.slots full ys.slots)
+        let parts = λ (q : Question) (r : of_reading q ≡ true). yes-of_parts d m q (y q r) in
+        format_back identifier_of content content_bits element_normal (format_by d t hold) apart (elements_of d.table m.slots) (slots-back d.table m.slots full (λ q r. (parts q r).slots))
         (more d m) (slots-none m) _ rest
-        (head-back d s t.options t.head w m.fields ys.fields m.options ys.options (more d m) (options-none m) (slots_bits d.table m.slots) rest)
+        (head-back d s t.options t.head w m.fields (λ q r. (parts q r).fields) m.options (λ q r. (parts q r).options) (more d m) (options-none m) (slots_bits d.table m.slots) rest)
         (one_bit (more d m))
         (ap (λ (ss : Slots d.table). hold (t.finish (t.head (normal d m).fields (t.options (normal d m).options)) ss)) (slots-normal d.table m.slots))
 

@@ -13,17 +13,17 @@ use Rattle.messages.proofs.HeadLaws.{type_back, announced-back}
 use Rattle.messages.specs.Questions.{Question, fits, ciphered}
 use Rattle.messages.specs.Description.{Field, number, switched, Type2, Description, Fields, Options, no_options, read_fields, read_options, options_behind, read_head, fields_bits, options_bits, any_option, head_bits, field_asked, fields_asked, options_asked, fields_normal, options_normal, SameHeld, SameFields, SameOptions}
 use Rattle.messages.specs.declared.Headed.{Headed}
-use Rattle.messages.proofs.DescriptionLaws.{Yes, Sound, AllSound}
+use Rattle.messages.proofs.DescriptionLaws.{of_reading, Readable, Sound, AllSound}
 
 -- ## the answers, taken apart
 
-pub fields-first : (f : Field) (fs : List Field) (vs : Fields (f ∷ fs)) → Yes (fields_asked (f ∷ fs) vs) → Yes (field_asked f vs.0)
+pub fields-first : (f : Field) (fs : List Field) (vs : Fields (f ∷ fs)) (q : Question) → fields_asked (f ∷ fs) vs q ≡ true → field_asked f vs.0 q ≡ true
 unfolding fields_asked
-fields-first f fs vs y q = (both (field_asked f vs.0 q) _ (y q)).0
+fields-first f fs vs q y = (both (field_asked f vs.0 q) _ y).0
 
-pub fields-others : (f : Field) (fs : List Field) (vs : Fields (f ∷ fs)) → Yes (fields_asked (f ∷ fs) vs) → Yes (fields_asked fs vs.1)
+pub fields-others : (f : Field) (fs : List Field) (vs : Fields (f ∷ fs)) (q : Question) → fields_asked (f ∷ fs) vs q ≡ true → fields_asked fs vs.1 q ≡ true
 unfolding fields_asked
-fields-others f fs vs y q = (both (field_asked f vs.0 q) _ (y q)).1
+fields-others f fs vs q y = (both (field_asked f vs.0 q) _ y).1
 
 -- ## read back
 
@@ -49,32 +49,33 @@ there true false v e = never e
 there false true v e = never e
 there false false v e = refl
 
-fields-back : {B : Type 0} (fs : List Field) (k : Fields fs → Reader B) (vs : Fields fs) → Yes (fields_asked fs vs) → (rest : Bits)
+fields-back : {B : Type 0} (fs : List Field) (k : Fields fs → Reader B) (vs : Fields fs) → Readable (fields_asked fs vs) → (rest : Bits)
     → read_fields fs k (fields_bits fs vs rest) ≡ k (fields_normal fs vs) rest
 unfolding read_fields fields_bits fields_normal
 fields-back [] k vs y rest = refl
 fields-back (number w ∷ fs) k vs y rest =
-    rw (number-back w vs.0 (fields-first (number w) fs vs y fits) _) (fields-back fs _ vs.1 (fields-others (number w) fs vs y) rest)
+    rw (number-back w vs.0 (fields-first (number w) fs vs fits (y fits refl)) _)
+    (fields-back fs _ vs.1 (λ q r. fields-others (number w) fs vs q (y q r)) rest)
 fields-back (switched w ∷ fs) k vs y rest =
-    let first = fields-first (switched w) fs vs y in
-    let tests = both (in_width flag_width vs.0.0) _ (first fits) in
+    let first = λ (q : Question) (r : of_reading q ≡ true). fields-first (switched w) fs vs q (y q r) in
+    let tests = both (in_width flag_width vs.0.0) _ (first fits refl) in
     rw (number-back flag_width vs.0.0 tests.0 _)
-    (rw (optional_number-back w (eqb vs.0.0 1) (in_u64 vs.0.1) (there (eqb vs.0.0 1) vs.0.1.present vs.0.1.value (first ciphered)) tests.1 _)
-    (fields-back fs _ vs.1 (fields-others (switched w) fs vs y) rest))
+    (rw (optional_number-back w (eqb vs.0.0 1) (in_u64 vs.0.1) (there (eqb vs.0.0 1) vs.0.1.present vs.0.1.value (first ciphered refl)) tests.1 _)
+    (fields-back fs _ vs.1 (λ q r. fields-others (switched w) fs vs q (y q r)) rest))
 
-type2-sound-back : (c : Type2) → Sound c → (o : Option c.Value) → ((q : Question) → option_all (λ v. c.asked v q) o ≡ true) → (rest : Bits)
+type2-sound-back : (c : Type2) → Sound c → (o : Option c.Value) → ((q : Question) → of_reading q ≡ true → option_all (λ v. c.asked v q) o ≡ true) → (rest : Bits)
     → type2 c.read (type2_bits c.bits o ++ rest) ≡ got (option_map c.normal o) rest
 type2-sound-back c s None y rest = rw (append_assoc (digits flag_width 0) [] rest) (rw (field_back flag_width 0 rest (bit_lt false)))
 type2-sound-back c s (Some v) y rest =
     rw (append_assoc (digits flag_width 1) (c.bits v) rest) (rw (field_back flag_width 1 (c.bits v ++ rest) (bit_lt true)) (rw (s.back v y rest)))
 
-options-back : {B : Type 0} (cs : List Type2) → AllSound cs → (k : Options cs → Reader B) (os : Options cs) → Yes (options_asked cs os) → (rest : Bits)
+options-back : {B : Type 0} (cs : List Type2) → AllSound cs → (k : Options cs → Reader B) (os : Options cs) → Readable (options_asked cs os) → (rest : Bits)
     → read_options cs k (options_bits cs os rest) ≡ k (options_normal cs os) rest
 unfolding read_options options_bits options_asked options_normal
 options-back [] s k os y rest = refl
 options-back (c ∷ cs) s k os y rest =
-    rw (type2-sound-back c s.0 (c.held os.0) (λ q. (both (option_all (λ v. c.asked v q) (c.held os.0)) _ (y q)).0) _)
-    (options-back cs s.1 _ os.1 (λ q. (both (option_all (λ v. c.asked v q) (c.held os.0)) _ (y q)).1) rest)
+    rw (type2-sound-back c s.0 (c.held os.0) (λ q r. (both (option_all (λ v. c.asked v q) (c.held os.0)) _ (y q r)).0) _)
+    (options-back cs s.1 _ os.1 (λ q r. (both (option_all (λ v. c.asked v q) (c.held os.0)) _ (y q r)).1) rest)
 
 -- where none is there
 none-present : {A : Type 0} (g : A → A) (o : Option A) → is_some o ≡ false → None ≡ option_map g o
@@ -89,7 +90,7 @@ options-absent (c ∷ cs) os e =
     λ i. (c.stored (none-present c.normal (c.held os.0) x.0 i), options-absent cs os.1 x.1 i)
 
 -- the O-bit and the type 2 elements
-behind-back : {T B : Type 0} (cs : List Type2) → AllSound cs → (f : Options cs → T) (k : ℕ → T → Reader B) (os : Options cs) → Yes (options_asked cs os)
+behind-back : {T B : Type 0} (cs : List Type2) → AllSound cs → (f : Options cs → T) (k : ℕ → T → Reader B) (os : Options cs) → Readable (options_asked cs os)
     → (more : Bool) → (more ≡ false → any_option cs os ≡ false) → (xs rest : Bits)
     → (field flag_width >>= λ o. options_behind cs f (eqb o 1) >>= k o) (announced more (options_bits cs os xs) ++ rest)
     ≡ k (bit more) (f (options_normal cs os)) (cond more xs [] ++ rest)
@@ -102,8 +103,8 @@ behind-back (c ∷ cs) s f k os y more absent xs rest =
 
 module _ (d : Description) (s : AllSound d.options) {T H : Type 0} (f : Options d.options → T) (h : Fields d.fields → T → H) where
   -- A HEAD IS READ BACK, in normal form
-  pub head-back : in_width pdu_type_width d.type ≡ true → (vs : Fields d.fields) → Yes (fields_asked d.fields vs)
-      → (os : Options d.options) → Yes (options_asked d.options os) → (more : Bool) → (more ≡ false → any_option d.options os ≡ false) → (xs rest : Bits)
+  pub head-back : in_width pdu_type_width d.type ≡ true → (vs : Fields d.fields) → Readable (fields_asked d.fields vs)
+      → (os : Options d.options) → Readable (options_asked d.options os) → (more : Bool) → (more ≡ false → any_option d.options os ≡ false) → (xs rest : Bits)
       → read_head d f h (head_bits d vs more (options_bits d.options os xs) ++ rest)
       ≡ got (record { head = h (fields_normal d.fields vs) (f (options_normal d.options os)); obit = bit more }) (cond more xs [] ++ rest)
   unfolding read_head head_bits

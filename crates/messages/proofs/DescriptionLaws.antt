@@ -9,13 +9,21 @@ use Rattle.bits.specs.PduParseError.{invalid_pdu_type}
 use Rattle.std.proofs.Math.Logic.{inl, inr}
 use Rattle.messages.specs.Head.{pdu_type_width, pdu_type, pass_if, pass_type2, layout_options}
 use Rattle.messages.proofs.HeadLaws.{type_local, type_passes, type2-local, type2_follows, end_follows, layout_options-local, behind-local, behind_follows}
-use Rattle.messages.specs.Questions.{Question, fits, alive, saving, Asked}
+use Rattle.messages.specs.Questions.{Question, fits, alive, saving, type3_only, Asked}
 use Rattle.messages.specs.Description.{Field, number, switched, Type2, Description, Fields, Options, read_fields, read_options, options_behind, read_head, pass_fields, widths, layout}
 use Rattle.messages.specs.declared.Headed.{Headed}
 
 -- each question is answered with yes
 abbrev pub Yes : Asked → Type 0
 Yes a = (q : Question) → a q ≡ true
+
+-- reading back asks each of them but question 14: the bits of a generic element of type 4 read back too
+abbrev pub of_reading : Question → Bool
+of_reading type3_only = false
+of_reading q = true
+
+abbrev pub Readable : Asked → Type 0
+Readable a = (q : Question) → of_reading q ≡ true → a q ≡ true
 
 -- the questions that concern type 2 elements
 abbrev pub of_options : Question → Bool
@@ -31,7 +39,7 @@ pub record Sound (c : Type2) : Type 0 where
   pub passes : Passes c.width c.read
   pub wide : (v : c.Value) → length (c.bits v) ≡ c.width
   -- what was written is read back, in normal form
-  pub back : (v : c.Value) → Yes (c.asked v) → (rest : Bits) → c.read (c.bits v ++ rest) ≡ got (c.normal v) rest
+  pub back : (v : c.Value) → Readable (c.asked v) → (rest : Bits) → c.read (c.bits v ++ rest) ≡ got (c.normal v) rest
   -- what was read is its own normal form
   pub own : (bs : Bits) {v : c.Value} {rest : Bits} → c.read bs ≡ got v rest → c.normal v ≡ v
   -- values that are the same have one normal form, and a value is the same as its own

@@ -16,7 +16,8 @@ use Rattle.messages.specs.Calls.{description_of, type_of, tie_of, alone, values_
 use Rattle.messages.specs.declared.Message.{Message}
 use Rattle.messages.specs.declared.Message.TheVariants as M
 use Rattle.messages.specs.declared.Record.{Record}
-use Rattle.messages.proofs.DescriptionLaws.{Yes, AllSound}
+use Rattle.messages.specs.Questions.{fits}
+use Rattle.messages.proofs.DescriptionLaws.{Readable, AllSound}
 use Rattle.messages.proofs.Type2Laws.{numeral-sound, saving_mode-sound, la-sound, class-sound, energy_saving-sound}
 use Rattle.messages.proofs.SlotsLaws.{FullSlots}
 use Rattle.messages.proofs.DescribedLaws.{regular-head, values-back, WasRead, values-read, normal-equal, normal_same}
@@ -60,7 +61,7 @@ abbrev pub FullRecord : Message → Record → Type 0
 FullRecord m r = FullSlots (description_of m).table (values_of m r).slots
 
 -- WHAT WAS WRITTEN IS READ BACK, in normal form
-pub read_back : (m : Message) (r : Record) → FullRecord m r → Yes (message_asked m r) → (rest : Bits)
+pub read_back : (m : Message) (r : Record) → FullRecord m r → Readable (message_asked m r) → (rest : Bits)
     → read_message m false (message_bits m r ++ rest) ≡ got (counted 0 (message_normal m r)) rest
 read_back m r full y rest = values-back (description_of m) (all_sound m) (tie_of m) (alone m) (type-fits m) (table-distinct m) (values_of m r) full y rest
 
@@ -82,7 +83,7 @@ module _ (m : Message) (b : Bool) (bs : Bits) {x : Counted Record} {rest : Bits}
 pub same-normal : (m : Message) (r s : Record) → SameMessage m r s → message_normal m r ≡ message_normal m s
 same-normal m r s e = ap (record_of m) (normal-equal (description_of m) (all_sound m) (values_of m r) (values_of m s) e)
 
--- A RECORD that passes the questions is the same as its normal form
-pub normal-same : (m : Message) (r : Record) → FullRecord m r → Yes (message_asked m r) → SameMessage m r (message_normal m r)
+-- A RECORD that passes question 8 is the same as its normal form
+pub normal-same : (m : Message) (r : Record) → FullRecord m r → message_asked m r fits ≡ true → SameMessage m r (message_normal m r)
 normal-same m r full y =
     rw (values-kept m (normal (description_of m) (values_of m r))) (normal_same (description_of m) (all_sound m) (values_of m r) full y)

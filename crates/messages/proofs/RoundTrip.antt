@@ -14,7 +14,7 @@ use Rattle.elements.specs.Table.{Counted, counted}
 use Rattle.elements.specs.Kinds.{identifier_of, content}
 use Rattle.elements.proofs.NumbersLaws.{both}
 use Rattle.messages.specs.Questions.{Question, fits, ciphered, attached, formed, alive, saving, type3_only, short, Asked, Test, tests, first_no}
-use Rattle.messages.proofs.DescriptionLaws.{Yes}
+use Rattle.messages.proofs.DescriptionLaws.{Yes, Readable}
 use Rattle.messages.proofs.Demand3.{strict-skipping}
 use Rattle.messages.specs.Calls.{message_of, format_of, read_message, octets_most, good_window, good_call, window_of, no_reading, reading_of, called, reading}
 use Rattle.messages.specs.Calls.{message_bits, message_asked, message_normal, writing_refusal, writing_of, written_as, octets_as}
@@ -95,7 +95,7 @@ module _ (m : Message) (os : List ℕ) (first end : ℕ) (r : Record) where
       go (Some k) h e = accepted-refused (sym (ap (λ (w : Writing). w.verdict) e))
 
 -- both readings of a window whose bits begin with those of the record
-reads_back_lem : (m : Message) (r : Record) → FullRecord m r → Yes (message_asked m r) → (b : Bool) (rest : Bits)
+reads_back_lem : (m : Message) (r : Record) → FullRecord m r → Readable (message_asked m r) → (b : Bool) (rest : Bits)
     → read_message m b (message_bits m r ++ rest) ≡ got (counted 0 (message_normal m r)) rest
 reads_back_lem m r full y false rest = read_back m r full y rest
 reads_back_lem m r full y true rest =
@@ -127,7 +127,7 @@ round_trip t m known os first end r n full e =
       strict-exact = answer 0 refl (first + n) w.asked.asked good-exact (window os (record { at = first + length ys; end = first + n })) (window-written exact) eq;
       skipping = answer 1 refl end w.asked.asked good (window os (record { at = first + length ys; end = end })) (window-written wrote) eq;
       skipping-exact = answer 1 refl (first + n) w.asked.asked good-exact (window os (record { at = first + length ys; end = first + n })) (window-written exact) eq;
-      same = normal-same m r full w.asked.asked;
+      same = normal-same m r full (w.asked.asked fits);
       before = kept-before wrote;
       behind = rw eq (kept-behind wrote);
       length-kept = same_length;
@@ -144,7 +144,7 @@ round_trip t m known os first end r n full e =
         → reading t how os' first stop ≡ reads_back first n (message_normal m r)
     answer how h stop y good rest e l =
         let c : length (ys ++ rest) - length rest ≡ n = omega (arith, length-append ys rest) in
-        call_is t known how os' first stop h good ∙ rw (e, reads_back_lem m r full y (eqb how 1) rest) (rw c)
+        call_is t known how os' first stop h good ∙ rw (e, reads_back_lem m r full (λ q a. y q) (eqb how 1) rest) (rw c)
 
 -- the same of an answer and the octets after it, as a writing call gives them
 pub written_back : (t : ℕ) (m : Message) → message_of t ≡ Some m → (os : List ℕ) (first end : ℕ) (r : Record) {w : Writing} {os' : List ℕ} → FullRecord m r

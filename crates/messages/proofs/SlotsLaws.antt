@@ -8,18 +8,18 @@ use Rattle.elements.specs.Numbers.{option_all, held}
 use Rattle.elements.proofs.NumbersLaws.{both, held-option}
 use Rattle.elements.specs.Table.{Counted, scan_table}
 use Rattle.elements.proofs.TableLaws.{AllSlots, slots_end, one-slot, scan-all}
-use Rattle.elements.proofs.TableBack.{SlotBack, SlotsBack, normal_slot, normal_slots}
+use Rattle.elements.proofs.TableBack.{SlotsBack, normal_slot, normal_slots}
 use Rattle.elements.specs.Generics.{no_type3, no_type4}
 use Rattle.elements.specs.Lists.{entries_most, list_normal}
 use Rattle.elements.specs.Locations.{no_location_demand, no_location_accept}
 use Rattle.elements.specs.Kinds.{Value, kind_content, kind_normal, SameValue, Element, of_kind, value_in, identifier_of, content, content_bits, element_normal, Stored, stored, held_in, stored_in}
-use Rattle.elements.proofs.KindsLaws.{kind-own, kind-same, Full, kind_normal-same, kind_back}
+use Rattle.elements.proofs.KindsLaws.{kind-own, kind-same, Full, IfHeld, kind_normal-same, slot-back}
 use Rattle.elements.specs.declared.typed_pdu_fields.Kind.{Kind}
 use Rattle.elements.specs.declared.typed_pdu_fields.Kind.TheVariants as K
 use Rattle.elements.specs.declared.typed_pdu_fields.Row.{Row}
 use Rattle.messages.specs.Questions.{Question, fits, attached, formed, short}
 use Rattle.messages.specs.Description.{Slots, slots_in, elements_of, kind_asked, slots_asked, slots_normal, SameHeld, SameSlots}
-use Rattle.messages.proofs.DescriptionLaws.{Yes}
+use Rattle.messages.proofs.DescriptionLaws.{of_reading, Readable}
 use Rattle.messages.proofs.DescriptionBack.{held-same}
 use Rattle.messages.proofs.FullLists.{kind-full}
 
@@ -38,11 +38,6 @@ value-none K.Type4 = refl
 value-none K.LocationDemand = refl
 value-none K.LocationAccept = refl
 value-none K.Downlinks = refl
-
--- what holds of what is held
-abbrev pub IfHeld : {A : Type 0} → (A → Type 0) → Option A → Type 0
-IfHeld P None = Unit
-IfHeld P (Some a) = P a
 
 -- an outer list is there
 abbrev pub There : (k : Kind) → Value k → Type 0
@@ -110,18 +105,13 @@ full_slots [] ss f = tt
 full_slots (r ∷ rs) ss f = (full_slot r.kind ss.0 f.0, full_slots rs ss.1 f.1)
 
 -- read back
-slot-back : (r : Row) (o : Option (Value r.kind)) → IfHeld (Full r.kind) o → ((q : Question) → option_all (λ v. kind_asked r.kind v q) o ≡ true)
-    → SlotBack content content_bits element_normal r (option_map (of_kind r.kind) o)
-slot-back r None full y = tt
-slot-back r (Some v) full y = kind_back r.identifier r.kind v full (y fits) (y attached) (y formed) (y short)
-
-pub slots-back : (rs : List Row) (ss : Slots rs) → FullSlots rs ss → Yes (slots_asked rs ss) → SlotsBack content content_bits element_normal rs (elements_of rs ss)
+pub slots-back : (rs : List Row) (ss : Slots rs) → FullSlots rs ss → Readable (slots_asked rs ss) → SlotsBack content content_bits element_normal rs (elements_of rs ss)
 unfolding slots_asked
 slots-back [] ss full y = tt
 slots-back (r ∷ rs) ss full y =
-    let test : Question → Bool = λ q. option_all (λ v. kind_asked r.kind v q) (held_in r.kind ss.0) in (
-      slot-back r (held_in r.kind ss.0) full.0 (λ q. (both (test q) _ (y q)).0),
-      slots-back rs ss.1 full.1 (λ q. (both (test q) _ (y q)).1),
+    let first = λ (q : Question) (a : of_reading q ≡ true). (both (option_all (λ v. kind_asked r.kind v q) (held_in r.kind ss.0)) _ (y q a)).0 in (
+      slot-back r.identifier r.kind (held_in r.kind ss.0) full.0 (first fits refl) (first attached refl) (first formed refl) (first short refl),
+      slots-back rs ss.1 full.1 (λ q a. (both (option_all (λ v. kind_asked r.kind v q) (held_in r.kind ss.0)) _ (y q a)).1),
     )
 
 -- the slots that are read back are the normal form
@@ -192,16 +182,14 @@ slots-same [] ss us e = refl
 slots-same (r ∷ rs) ss us e =
     λ i. (stored r.kind (held-same (kind_normal r.kind) (kind-same r.kind) (held_in r.kind ss.0) (held_in r.kind us.0) e.0 i), slots-same rs ss.1 us.1 e.1 i)
 
-slot_normal-same : (k : Kind) (o : Option (Value k)) → IfHeld (Full k) o → ((q : Question) → option_all (λ v. kind_asked k v q) o ≡ true)
+slot_normal-same : (k : Kind) (o : Option (Value k)) → IfHeld (Full k) o → option_all (λ v. kind_asked k v fits) o ≡ true
     → SameHeld (SameValue k) o (held_in k (stored k (option_map (kind_normal k) o)))
 slot_normal-same k None full y = rw (stored-held k None tt) tt
-slot_normal-same k (Some v) full y = rw (stored-held k (Some (kind_normal k v)) (normal_there k v full)) (kind_normal-same k v (y fits) full)
+slot_normal-same k (Some v) full y = rw (stored-held k (Some (kind_normal k v)) (normal_there k v full)) (kind_normal-same k v y full)
 
-pub slots_normal-same : (rs : List Row) (ss : Slots rs) → FullSlots rs ss → Yes (slots_asked rs ss) → SameSlots rs ss (slots_normal rs ss)
+pub slots_normal-same : (rs : List Row) (ss : Slots rs) → FullSlots rs ss → slots_asked rs ss fits ≡ true → SameSlots rs ss (slots_normal rs ss)
 unfolding slots_asked slots_normal
 slots_normal-same [] ss full y = tt
 slots_normal-same (r ∷ rs) ss full y =
-    let test : Question → Bool = λ q. option_all (λ v. kind_asked r.kind v q) (held_in r.kind ss.0) in (
-      slot_normal-same r.kind (held_in r.kind ss.0) full.0 (λ q. (both (test q) _ (y q)).0),
-      slots_normal-same rs ss.1 full.1 (λ q. (both (test q) _ (y q)).1),
-    )
+    let yes = both (option_all (λ v. kind_asked r.kind v fits) (held_in r.kind ss.0)) _ y in
+    (slot_normal-same r.kind (held_in r.kind ss.0) full.0 yes.0, slots_normal-same rs ss.1 full.1 yes.1)

@@ -3,7 +3,7 @@ use Rattle.std.specs.Prelude.{◌≡◌, ℕ, ◌+◌, ◌-◌, ◌*◌, ◌^◌
 use Rattle.std.specs.Char.{digit_value}
 use Rattle.std.specs.List.{position, position_or_len}
 use Rattle.std.specs.Option.{unwrap_or, option_and_then}
-use Rattle.std.proofs.Common.{sym, ap, ◌∙◌, append_assoc, append-nil, add-one, length-drop, drop_of_length-le, drop-cons, take_all}
+use Rattle.std.proofs.Common.{sym, ap, ◌∙◌, append_assoc, append-nil, add-one, length-take, length-drop, drop_of_length-le, drop-cons, take_all}
 use Rattle.std.proofs.lemmas.List.Sums.{prefix_len-le-length}
 use native.Mathlib.Omega.{arith}
 use borrow.Author.Tests.{lt-ltb, le-ltb}
@@ -102,3 +102,25 @@ word_of s rest o n p e q = rw (q, e, place_or_len is_blank rest, p) refl
 pub behind_word : (s rest : List ℕ) (o : Option ℕ) (n : ℕ) → rest ≡ unblanked s → o ≡ position is_blank rest → n ≡ unwrap_or o (length rest) → drop n rest ≡ after_word s
 unfolding after_word
 behind_word s rest o n p e q = rw (q, e, place_or_len is_blank rest, p) refl
+
+-- words are no longer than the text
+pub first_word_within : (s : List ℕ) → length (first_word s) ≤ length s
+unfolding first_word
+first_word_within s = simp (length-take, length-drop) (omega arith)
+
+pub after_word_within : (s : List ℕ) → length (after_word s) ≤ length s
+unfolding after_word
+after_word_within s = simp length-drop (omega arith)
+
+-- OCTETS FROM A PLACE ON
+octets-cons : (x y : ℕ) (xs : List ℕ) → octets (x ∷ y ∷ xs) ≡ octet_of x y ∷ octets xs
+unfolding octets
+octets-cons x y xs = refl
+
+pub octets-more : (s : List ℕ) (i : ℕ) → 2 * i + 1 < length s → octets (drop (2 * i) s) ≡ octet_of (slice_index s (2 * i)) (slice_index s (2 * i + 1)) ∷ octets (drop (2 * (i + 1)) s)
+octets-more s i h =
+    let e : 2 * (i + 1) ≡ 2 * i + 1 + 1 = omega arith in
+    rw (e, from s (2 * i) (omega arith), from s (2 * i + 1) h, octets-cons) refl
+
+pub octets-ends : (s : List ℕ) (i : ℕ) → length s ≤ 2 * i + 1 → octets (drop (2 * i) s) ≡ []
+octets-ends s i h = octets_end (drop (2 * i) s) (rw length-drop (omega arith))

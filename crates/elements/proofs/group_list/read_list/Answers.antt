@@ -1,9 +1,10 @@
 -- `elements::group_list::read_list` meets its contract: by the laws of a list's slot.
-use Rattle.std.specs.Prelude.{Some}
-use Rattle.std.proofs.Common.{sym, ◌∙◌}
+use Rattle.std.specs.Prelude.{Bool, Some, replicate}
+use Rattle.std.proofs.Common.{sym, ap, ◌∙◌, arith}
 use Rattle.bits.specs.Placed.{placed}
 use Rattle.bits.specs.PlacedLaws.{Gives, from, refused_by}
 use Rattle.elements.specs.Fronts.{list_front}
+use Rattle.elements.specs.Lists.{entries_most}
 use Rattle.elements.specs.GroupAnswers.{list_answer}
 use Rattle.elements.proofs.Verdicts.{answer}
 use Rattle.elements.proofs.PlacedOptional.{known}
@@ -27,7 +28,10 @@ returns-in_default-front g c =
     rw c.no_list.ensures (answer (list_answer k) (list-absent k c.args.identifier c.args.there (known (from c.in-Ok.ensures) c.in_default-front.is)))
 
 pub loop-i-init : goal.loop-i-init
-loop-i-init g c = list_zeros g.L.GroupList.kind g.met.L.GroupList.made c.zeros.ensures
+loop-i-init g c =
+    let k = g.L.GroupList.kind in
+    let there = λ (p : Bool). k.make p c.in-Some.front.count (replicate entries_most k.zero) in
+    list_zeros k g.met.L.GroupList.made (c.zeros.ensures ∙ ap there (grind arith))
 
 pub returns-in_default-f : goal.returns-in_default-f
 returns-in_default-f g c =

@@ -1,5 +1,6 @@
 -- `elements::typed_pdu_fields::read_closing_mbit` meets its contract: a field, and a test of it.
-use Rattle.std.proofs.Common.{eq-eqb, ne_eqb}
+use Rattle.std.specs.Prelude.{◌≡◌}
+use Rattle.std.proofs.Common.{arith, eq-eqb, ne_eqb}
 use Rattle.bits.specs.Reader.{word}
 use Rattle.bits.specs.ReaderLaws.{local·rules}
 use Rattle.bits.specs.PlacedLaws.{so, from, handed_up_moved, step, stop}
@@ -13,8 +14,10 @@ returns-in_err-m c = handed_up_moved _ c.from_residual.ensures.1 (stop _ (from c
 
 pub returns-then-m-eq0 : goal.returns-then-m-eq0
 unfolding word closing
-returns-then-m-eq0 c = so (step _ (from c.in_ok-m.ensures) (search local·rules) (passed _ (eq-eqb _ 0 c.if-m-eq0.true)))
+returns-then-m-eq0 c =
+    let unset : c.in_ok-m.m ≡ 0 = omega (arith, c.if-m-eq0.true) in
+    so (step _ (from c.in_ok-m.ensures) (search local·rules) (passed _ (eq-eqb _ _ unset)))
 
 pub returns : goal.returns
 unfolding word closing
-returns c = so (step _ (from c.in_ok-m.ensures) (search local·rules) (failed _ (ne_eqb _ 0 c.if-m-eq0.false)))
+returns c = so (step _ (from c.in_ok-m.ensures) (search local·rules) (failed _ (ne_eqb _ _ (λ e. c.if-m-eq0.false (omega (arith, e))))))
